@@ -5,6 +5,7 @@ use mathlib.Core.List.{List, [], _∷_, _++_}
 use Prim.Native.Nat.{ℕ, zero, suc, _+_, _-_, _*_}
 use lib.Dec.{ltb, leb, eqb}
 use lib.ListN.{length, take, drop}
+use Rattle.std.specs.Written.{decimal}
 use Rattle.meaning.specs.Lines.{pick}
 use Rattle.scan.specs.declared.Kind.{Kind}
 use Rattle.scan.specs.declared.Kind.the-variants as kind
@@ -73,3 +74,8 @@ numbers-in (suc n) bs = and-then (number-in bs) (λ v rest. onto (v ∷ []) (num
 unfoldable pub list-in : ℕ → List ℕ → Read (List ℕ)
 list-in zero bs = pick (eqb (length (next-word bs)) 0) (got [] []) (bad (length (next-word bs)))
 list-in (suc n) bs = pick (eqb (length (next-word bs)) 0) (got [] []) (and-then (number-in bs) (λ v rest. onto (v ∷ []) (list-in n rest)))
+
+-- numbers as they are printed, each behind a space
+unfoldable pub spaced : List ℕ → List ℕ
+spaced [] = []
+spaced (n ∷ ns) = (32 ∷ decimal n) ++ spaced ns

@@ -1,3 +1,4 @@
 pub mod Verbs
 pub mod Listings
 pub mod Assembled
+pub mod Back

@@ -6,13 +6,12 @@ use Prim.Native.Nat.{ℕ, suc, _-_, _≤_}
 use lib.Chars.{codes}
 use lib.Dec.{eqb, ltb}
 use lib.ListN.{length, getD}
-use Rattle.std.specs.Written.{decimal}
 use Rattle.std.specs.shelf.Text.{sameBytes}
 use Rattle.meaning.specs.Lines.{pick}
 use Rattle.meaning.specs.Calls.{Call, garbled, call-number}
 use Rattle.meaning.specs.Promise.{readable}
 use Rattle.protocol.specs.Forms.{fields, listing, field-count, has-list, made}
-use Rattle.scan.specs.Words.{Read, got, bad, and-then, next-word, word-in, past-word, numbers-in, list-in}
+use Rattle.scan.specs.Words.{Read, got, bad, and-then, next-word, word-in, past-word, numbers-in, list-in, spaced}
 
 -- the words with which lines begin, in the order of the calls' numbers
 abbrev pub verbs : List (List ℕ)
@@ -24,15 +23,15 @@ verbs =
 abbrev pub joint : ℕ → List ℕ
 joint k = pick (eqb k 0) (codes "limits") (pick (eqb k 5) (codes "to") (codes "on"))
 
--- numbers, each behind a space
-abbrev pub spaced : List ℕ → List ℕ
-spaced [] = []
-spaced (n ∷ ns) = (32 ∷ decimal n) ++ spaced ns
+-- behind the numbers of a call of number k: where it has a list, the word before that and the list
+abbrev pub tail-from : ℕ → List ℕ → List ℕ
+tail-from k list = pick (has-list k) ((32 ∷ joint k) ++ spaced list) []
 
--- THE LINE of a call: its word, its numbers, and where it has a list, the word before that and the list
+-- the line of a call of number k: its word, its numbers and its list
 unfoldable pub line-from : ℕ → List ℕ → List ℕ → List ℕ
-line-from k fs list = getD verbs k [] ++ (spaced fs ++ pick (has-list k) ((32 ∷ joint k) ++ spaced list) [])
+line-from k fs list = getD verbs k [] ++ (spaced fs ++ tail-from k list)
 
+-- THE LINE of a call
 abbrev pub call-line : Call → List ℕ
 call-line c = line-from (call-number c) (fields c) (listing c)
 
