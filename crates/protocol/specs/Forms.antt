@@ -91,10 +91,12 @@ made k fs list =
     (pick (eqb k 9) (booking (f 0))
     (leg-is (f 0)))))))))))
 
--- a call taken apart: its number and its numbers, whatever list stands beside it
+-- a call taken apart: its number and its numbers, whatever list stands beside it, and that this is its list where its number has one
 pub record Taken-apart (c : Call) (k : ℕ) (fs : List ℕ) : Type 0 where
+  pub known : k ≤ 10
   pub number-is : (list : List ℕ) → k ≡ call-number (call-of c list)
   pub fields-are : (list : List ℕ) → take (field-count k) fs ≡ fields (call-of c list)
+  pub list-is : (list : List ℕ) → has-list k ≡ true → listing (call-of c list) ≡ list
 
 -- a call put together from its number and its numbers; there is none beyond 10
 abbrev pub Put-together : ℕ → List ℕ → Option Call → Type 0

@@ -2,3 +2,5 @@ pub mod Verbs
 pub mod Listings
 pub mod Assembled
 pub mod Back
+pub mod Spaced
+pub mod Printed

@@ -31,6 +31,9 @@ pub enum NoCall {
     NoMemory,
 }
 
+pub mod answers;
+mod calls;
+
 // The word with which the line of a call begins, by the call's number; none beyond 10.
 fn verb(number: u8) -> &'static str
     ensures { λ r. ⌜ now r ≡ getD verbs number [] ⌝ }
