@@ -66,3 +66,17 @@ unfolding list-in
 list-over m i us bs h e =
     let n : m - i ≡ 0 = omega arith in
     ap (λ k. onto us (list-in k bs)) n ∙ ap (λ t. onto us (pick t (got [] []) (bad (length (next-word bs))))) e
+
+-- as many numbers are read as were asked for
+pub numbers-length : (n : ℕ) (bs ns rest : List ℕ) → numbers-in n bs ≡ got ns rest → length ns ≡ n
+unfolding numbers-in
+numbers-length zero bs ns rest e = let z : ns ≡ [] = cc in ap length z
+numbers-length (suc n) bs ns rest e = first (number-in bs) e (numbers-length n)
+  where
+    last : (v : ℕ) (r : Read (List ℕ)) → onto (v ∷ []) r ≡ got ns rest → ((vs end : List ℕ) → r ≡ got vs end → length vs ≡ n) → length ns ≡ suc n
+    last v (got vs end) f ih = let z : ns ≡ v ∷ vs = cc in omega (arith, ap length z, ih vs end refl)
+    last v (bad left) f ih = let z : _≡_ {A = ℕ} 0 1 = cc in absurd (omega arith)
+
+    first : (r : Read ℕ) → and-then r (λ v end. onto (v ∷ []) (numbers-in n end)) ≡ got ns rest → ((cs vs end : List ℕ) → numbers-in n cs ≡ got vs end → length vs ≡ n) → length ns ≡ suc n
+    first (got v cs) f ih = last v (numbers-in n cs) f (ih cs)
+    first (bad left) f ih = let z : _≡_ {A = ℕ} 0 1 = cc in absurd (omega arith)

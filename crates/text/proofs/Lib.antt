@@ -4,3 +4,4 @@ pub mod Assembled
 pub mod Back
 pub mod Spaced
 pub mod Printed
+pub mod Opens

@@ -1,3 +1,4 @@
 pub mod CallLines
 pub mod AnswerLines
+pub mod HouseLines
 pub mod Told

@@ -5,7 +5,7 @@ ghost use lib.ListN.{getD};
 ghost use Rattle.std.specs.shelf.Text.{sameBytes};
 ghost use Rattle.std.specs.declared.option.Option.the-variants.{Some, None};
 ghost use Rattle.scan.specs.Told.{List-told};
-ghost use Rattle.text.specs.CallLines.{call-in, joint, line-call, listing-in, place-among, rest-in, verbs};
+ghost use Rattle.text.specs.CallLines.{Reads-back, call-in, joint, line-call, listing-in, place-among, rest-in, verbs};
 ghost use Rattle.text.specs.Told.{Line-told, Rest-told};
 use protocol::Call;
 use protocol::field_count;
@@ -33,6 +33,7 @@ pub enum NoCall {
 
 pub mod answers;
 mod calls;
+pub mod houses;
 
 // The word with which the line of a call begins, by the call's number; none beyond 10.
 fn verb(number: u8) -> &'static str
@@ -139,4 +140,11 @@ pub fn read_call(heap: Global, line: &[u8]) -> Result<CallLine, NoCall>
         Err(Unread::Unfit { left }) => Err(NoCall::Unreadable { place: line.len().saturating_sub(left) }),
         Err(Unread::NoMemory) => Err(NoCall::NoMemory),
     }
+}
+
+// For every call that can be written in its fields, reading the line that is printed for it gives
+// that call back: a theorem over the definitions that the contracts of reading and printing cite.
+pub fn reads_back()
+    ensures { λ _. ⌜ Reads-back ⌝ }
+{
 }
