@@ -2,7 +2,7 @@
 -- many bytes are left from the first that doesn't fit on. Definitions only.
 use mathlib.Core.Bool.{Bool, not, _&&_}
 use mathlib.Core.List.{List, [], _∷_, _++_}
-use Prim.Native.Nat.{ℕ, zero, suc, _+_, _-_, _*_}
+use Prim.Native.Nat.{ℕ, zero, suc, _+_, _-_, _*_, min}
 use lib.Dec.{ltb, leb, eqb}
 use lib.ListN.{length, take, drop}
 use Rattle.std.specs.Written.{decimal}
@@ -20,16 +20,25 @@ abbrev pub and-then : {A B : Type 0} → Read A → (A → List ℕ → Read B) 
 and-then (got a rest) f = f a rest
 and-then (bad left) f = bad left
 
--- a space; a byte of a word, which is any other; a decimal digit
+-- a space; a byte of a word, which is any other; a decimal digit; a byte of a line, which is any but the one that ends it
 abbrev pub is-kind : Kind → ℕ → Bool
 is-kind kind.Space b = eqb b 32
 is-kind kind.Letter b = not (eqb b 32)
 is-kind kind.Digit b = leb 48 b && leb b 57
+is-kind kind.InLine b = not (eqb b 10)
 
 -- how many bytes of a kind stand in front
 unfoldable pub front : Kind → List ℕ → ℕ
 front k [] = 0
 front k (b ∷ bs) = pick (is-kind k b) (suc (front k bs)) 0
+
+-- the first line of a text, without the byte that ends it
+abbrev pub line-of : List ℕ → List ℕ
+line-of bs = take (front kind.InLine bs) bs
+
+-- what stands behind that byte
+abbrev pub past-line : List ℕ → List ℕ
+past-line bs = drop (min (length bs) (front kind.InLine bs + 1)) bs
 
 -- from the next word on
 abbrev pub next-word : List ℕ → List ℕ

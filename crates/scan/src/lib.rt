@@ -3,18 +3,20 @@
 // left from the first that doesn't fit on, so that its place in the line is the line's length
 // less that.
 ghost use mathlib.Core.Path.{_≡_};
-ghost use Prim.Native.Nat.{_≤_, min};
+ghost use Prim.Native.Nat.{_<_, _≤_, min};
 ghost use lib.ListN.{length, drop};
 ghost use Rattle.scan.specs.Told.{List-told, number-told, numbers-told};
-ghost use Rattle.scan.specs.Words.{front, is-kind, list-in, next-word, number-in, numbers-in, past-word, value-on, word-in};
+ghost use Rattle.scan.specs.Words.{front, is-kind, line-of, list-in, next-word, number-in, numbers-in, past-line, past-word, value-on, word-in};
 use std::alloc::Global;
 
-// Kinds of bytes: a space, a byte of a word, which is any other, and a decimal digit.
+// Kinds of bytes: a space, a byte of a word, which is any other, a decimal digit, and a byte of a
+// line, which is any but the one that ends it.
 #[derive(Clone, Copy)]
 pub enum Kind {
     Space,
     Letter,
     Digit,
+    InLine,
 }
 
 // A number, and what stands behind it.
@@ -28,6 +30,13 @@ pub struct Number<'a> {
 #[derive(Clone, Copy)]
 pub struct Word<'a> {
     pub word: &'a [u8],
+    pub rest: &'a [u8],
+}
+
+// A line of a text, and what stands behind it.
+#[derive(Clone, Copy)]
+pub struct Line<'a> {
+    pub line: &'a [u8],
     pub rest: &'a [u8],
 }
 
@@ -55,6 +64,7 @@ impl Kind {
             Kind::Space => byte == b' ',
             Kind::Letter => byte != b' ',
             Kind::Digit => b'0' <= byte && byte <= b'9',
+            Kind::InLine => byte != b'\n',
         }
     }
 }
@@ -98,6 +108,20 @@ fn value_of(digits: &[u8]) -> u64
         value = (value * 10 + u64::from(digit.saturating_sub(b'0'))).min(TOO_LARGE);
     }
     value
+}
+
+// The first line of a text, without the byte that ends it.
+pub fn read_line(text: &[u8]) -> Line<'_>
+    ensures line { λ r. ⌜ now (r .line) ≡ line-of (now (text .entry)) ⌝ }
+    ensures rest { λ r. ⌜ now (r .rest) ≡ past-line (now (text .entry)) ⌝ }
+    ensures shorter { λ r. ⌜ (0 < length (now (text .entry)) → length (now (r .rest)) < length (now (text .entry))) ⌝ }
+{
+    let length = count_front(Kind::InLine, text);
+    let end = text.len().min(length + 1);
+    Line {
+        line: &text[0..length],
+        rest: behind(text, end),
+    }
 }
 
 // The next number; or how many bytes are left from what doesn't fit on.

@@ -50,7 +50,7 @@ fn write_row<W: fmt::Write>(f: &mut fmt::Formatter<W>, numbers: &[u32]) -> fmt::
     write_spaced(f, rest)
 }
 
-impl fmt::Display for AnswerLine<'_> as AnswerLineDisplay {
+pub impl fmt::Display for AnswerLine<'_> as AnswerLineDisplay {
     ghost shown = { λ x. Some (answer-line (answer-of (x .answer) (now (x .list)))) };
 
     fn fmt<W: fmt::Write>(&self, f: &mut fmt::Formatter<W>) -> fmt::Result {

@@ -12,7 +12,7 @@ use protocol::field_count;
 use protocol::takes_list;
 use std::fmt;
 
-impl fmt::Display for CallLine as CallLineDisplay {
+pub impl fmt::Display for CallLine as CallLineDisplay {
     ghost shown = { λ x. Some (call-line (call-of (x .call) (vec-items (x .list)))) };
 
     fn fmt<W: fmt::Write>(&self, f: &mut fmt::Formatter<W>) -> fmt::Result {

@@ -42,7 +42,7 @@ pub fn read_house(line: &[u8]) -> Result<HouseLine, usize>
     Ok(HouseLine { gap, hold, legs, fares, bookings })
 }
 
-impl fmt::Display for HouseLine as HouseLineDisplay {
+pub impl fmt::Display for HouseLine as HouseLineDisplay {
     ghost shown = { λ h. Some (house-line (numbers-of h)) };
 
     fn fmt<W: fmt::Write>(&self, f: &mut fmt::Formatter<W>) -> fmt::Result {

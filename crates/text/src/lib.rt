@@ -32,7 +32,7 @@ pub enum NoCall {
 }
 
 pub mod answers;
-mod calls;
+pub mod calls;
 pub mod houses;
 
 // The word with which the line of a call begins, by the call's number; none beyond 10.
