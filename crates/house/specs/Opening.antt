@@ -11,7 +11,7 @@ use Rattle.meaning.specs.House.{House}
 use Rattle.meaning.specs.Calls.{Answer, refused, Limits, answer}
 use Rattle.protocol.specs.Forms.{answer-of}
 use Rattle.protocol.specs.declared.Answer.{Answer as Told}
-use Rattle.scan.specs.Words.{Read, got, bad}
+use Rattle.scan.specs.Words.{got, bad}
 use Rattle.std.specs.declared.result.Result.{Result}
 use Rattle.std.specs.declared.result.Result.the-variants.{Ok, Err}
 use Rattle.text.specs.CallLines.{line-call}

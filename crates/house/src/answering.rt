@@ -14,11 +14,17 @@ pub fn answer_to(heap: Global, line: &[u8]) -> Result<Answer, AllocError>
     let _call = match read_call(heap, line) {
         Ok(call) => call,
         Err(NoCall::Unreadable { place }) => {
-            return Ok(Answer::Refused { refusal: 1, place: place as u64 });
+            return Ok(Answer::Refused {
+                refusal: 1,
+                place: place as u64,
+            });
         }
         Err(NoCall::NoMemory) => return Err(AllocError),
     };
-    Ok(Answer::Refused { refusal: 2, place: 0 })
+    Ok(Answer::Refused {
+        refusal: 2,
+        place: 0,
+    })
 }
 
 // Is a line passed over: an empty one, or one that begins with `#`.

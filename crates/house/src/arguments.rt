@@ -58,5 +58,10 @@ pub fn read_arguments(words: &[String]) -> Result<Arguments<'_>, Misuse<'_>> {
             other => return Err(Misuse::NoTear(other)),
         };
     }
-    Ok(Arguments { pages: pages.as_str(), acts: count, calls: calls.as_str(), tear })
+    Ok(Arguments {
+        pages: pages.as_str(),
+        acts: count,
+        calls: calls.as_str(),
+        tear,
+    })
 }

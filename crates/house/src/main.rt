@@ -20,6 +20,10 @@ use std::io;
 use text::answers::AnswerLine;
 use text::answers::AnswerLineDisplay;
 
+// The program ends with status 1.
+#[derive(Clone, Copy)]
+struct Failed;
+
 // Prints an answer, unless it is the act in which power fails. Gives how many acts are left then,
 // where power did not fail.
 fn say(rt: &LibcRuntime, acts: u64, answer: Answer) -> io::Result<Option<u64>> {
@@ -70,9 +74,57 @@ fn play(rt: &LibcRuntime, text: &[u8], bytes: u64, power: u64) -> io::Result<()>
             None => return Ok(()),
         }
     }
+    if !opened {
+        // A file with no first line: it is too short at once.
+        let _ = say(
+            rt,
+            acts,
+            Answer::Refused {
+                refusal: 1,
+                place: 0,
+            },
+        )?;
+    }
     Ok(())
 }
 
-fn main(rt: LibcRuntime) -> io::Result<()> {
-    Ok(())
+// Reads the files that the words name, and plays them.
+fn run(rt: &LibcRuntime, words: &[String]) -> io::Result<bool> {
+    let arguments = match read_arguments(words) {
+        Ok(arguments) => arguments,
+        Err(misuse) => return complain(rt, misuse),
+    };
+    let Ok(bytes) = pages_length(rt, arguments.pages) else {
+        return complain(rt, Misuse::Unreadable(arguments.pages));
+    };
+    let Ok(text) = fs::read(rt, arguments.calls) else {
+        return complain(rt, Misuse::Unreadable(arguments.calls));
+    };
+    play(rt, text.as_slice(), bytes, arguments.acts)?;
+    Ok(true)
+}
+
+// Says on standard error, in one line, how the program was misused.
+fn complain(rt: &LibcRuntime, misuse: Misuse<'_>) -> io::Result<bool> {
+    eprintln!(rt, "house: {misuse}")?;
+    Ok(false)
+}
+
+// The words behind the program's name.
+fn words(rt: &LibcRuntime) -> io::Result<Vec<String>> {
+    let mut words = Vec::new(rt.alloc());
+    for word in env::args(rt)?.skip(1) {
+        words.push(word)?;
+    }
+    Ok(words)
+}
+
+fn main(rt: LibcRuntime) -> Result<(), Failed> {
+    let Ok(words) = words(&rt) else {
+        return Err(Failed);
+    };
+    match run(&rt, words.as_slice()) {
+        Ok(true) => Ok(()),
+        Ok(false) | Err(_) => Err(Failed),
+    }
 }

@@ -9,7 +9,13 @@ use text::houses::read_house;
 pub fn check_opening(house: HouseLine, bytes: u64) -> Result<(), u64>
     ensures { λ r. ⌜ Checked r house bytes ⌝ }
 {
-    let HouseLine { gap, hold, legs, fares, bookings } = house;
+    let HouseLine {
+        gap,
+        hold,
+        legs,
+        fares,
+        bookings,
+    } = house;
     if legs > 32 || fares > 32 || bookings > 128 {
         return Err(0);
     }
@@ -29,7 +35,10 @@ pub fn open(line: &[u8], bytes: u64) -> Result<(), Answer>
 {
     let house = match read_house(line) {
         Ok(house) => house,
-        Err(place) => return Err(Answer::Refused { refusal: 1, place: place as u64 }),
+        Err(place) => return Err(Answer::Refused {
+            refusal: 1,
+            place: place as u64,
+        }),
     };
     match check_opening(house, bytes) {
         Ok(()) => Ok(()),

@@ -1,25 +1,22 @@
 -- Numbers and words that are printed are read back.
-use mathlib.Core.Path.{_≡_, refl, sym, ap, ap₂, subst, _∙_}
-use mathlib.Core.Bool.{Bool, true, false, not, _&&_}
+use mathlib.Core.Path.{_≡_, refl, sym, ap, ap₂, _∙_}
+use mathlib.Core.Bool.{Bool, true, false}
 use mathlib.Core.List.{List, [], _∷_, _++_, append-assoc, append-nil}
-use Prim.Native.Nat.{ℕ, zero, suc, _+_, _-_, _*_, _^_, _≤_, _<_}
+use Prim.Native.Nat.{ℕ, zero, suc, _^_, _≤_, _<_}
 use native.Mathlib.Omega.{arith}
-use borrow.Author.Needs.{needs}
-use lib.Dec.{eqb, leb, ltb}
+use lib.Dec.{eqb}
 use lib.ListN.{length, take, drop, length-append}
 use Rattle.std.proofs.shelf.Decimals.{digits-decimal, value-decimal, decimal-some}
 use Rattle.std.proofs.shelf.Lists.{take-at, drop-at}
-use Rattle.std.proofs.shelf.Numerals.{Numerals, TellsDigits, Folds, numerals-by-fold}
+use Rattle.std.proofs.shelf.Numerals.{Numerals, TellsDigits, numerals-by-fold}
 use Rattle.std.proofs.shelf.Tests.{and-parts, and-from, leb-true, le-leb, ltb-true, ne-eqb}
 use Rattle.std.proofs.shelf.Ways.{tells}
-use Rattle.std.specs.Text.{In}
 use Rattle.std.specs.Written.{decimal}
 use Rattle.meaning.specs.Lines.{pick}
 use Rattle.meaning.specs.Promise.{all-fields}
-use Rattle.scan.specs.Words.{Read, got, bad, and-then, onto, is-kind, front, next-word, value-on, number-of, number-in, word-in, past-word, numbers-in, list-in, spaced}
+use Rattle.scan.specs.Words.{Read, got, and-then, onto, is-kind, front, next-word, value-on, number-in, word-in, past-word, numbers-in, list-in, spaced}
 use Rattle.scan.specs.declared.Kind.{Kind}
 use Rattle.scan.specs.declared.Kind.the-variants as kind
-use Rattle.scan.proofs.Readings.{onto-none}
 
 -- bytes that are all of a kind
 abbrev pub Each : Kind → List ℕ → Type 0

@@ -1,14 +1,13 @@
 -- A call put together from the numbers that were read: only as many count as its number asks for.
-use mathlib.Core.Path.{_≡_, refl, sym, ap, _∙_}
-use mathlib.Core.Bool.{Bool, true, false}
-use mathlib.Core.List.{List, [], _∷_}
+use mathlib.Core.Path.{_≡_, refl, ap, _∙_}
+use mathlib.Core.List.{List, []}
 use Prim.Native.Nat.{ℕ, zero, suc, _≤_, _<_, min}
 use native.Mathlib.Omega.{arith}
 use lib.ListN.{getD, take}
-use Rattle.meaning.specs.Calls.{Call, opens, files, books, pays, cancels, limits-to, ticks, free, price-of, booking, leg-is}
+use Rattle.meaning.specs.Calls.{opens, files, books, pays, cancels, limits-to, ticks, free, price-of, booking, leg-is}
 use Rattle.protocol.specs.Forms.{field-count, made}
 use Rattle.scan.specs.Told.{List-told}
-use Rattle.scan.specs.Words.{Read, got, bad, and-then, numbers-in}
+use Rattle.scan.specs.Words.{got, bad, and-then, numbers-in}
 use Rattle.scan.specs.declared.Unread.{Unread}
 use Rattle.scan.specs.declared.Unread.the-variants as unread
 use Rattle.std.specs.declared.result.Result.the-variants.{Err}

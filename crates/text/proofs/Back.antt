@@ -1,25 +1,24 @@
 -- For every call that can be written in its fields, reading the line that is printed for it gives that call back.
-use mathlib.Core.Path.{_≡_, refl, sym, ap, ap₂, subst, _∙_}
-use mathlib.Core.Bool.{Bool, true, false, _&&_}
+use mathlib.Core.Path.{_≡_, refl, sym, ap, _∙_}
+use mathlib.Core.Bool.{Bool, true, false}
 use mathlib.Core.List.{List, [], _∷_, _++_}
 use mathlib.Core.Logic.{inl, inr}
 use Prim.Native.Nat.{ℕ, zero, suc, _≤_, _<_}
 use native.Mathlib.Omega.{arith}
-use lib.Dec.{eqb, ltb}
+use lib.Dec.{eqb}
 use lib.ListN.{length, getD}
 use Rattle.std.proofs.shelf.Equals.{sameBytes-decides}
-use Rattle.std.proofs.shelf.Tests.{and-parts, and-from, cases-bool, ltb-true}
-use Rattle.std.specs.shelf.Text.{sameBytes}
+use Rattle.std.proofs.shelf.Tests.{cases-bool}
 use Rattle.meaning.specs.Lines.{pick}
-use Rattle.meaning.specs.Calls.{Call, opens, files, books, pays, cancels, limits-to, ticks, free, price-of, booking, leg-is, garbled, call-number}
-use Rattle.meaning.specs.Promise.{field, all-fields, short, readable}
+use Rattle.meaning.specs.Calls.{call-number}
+use Rattle.meaning.specs.Promise.{all-fields}
 use Rattle.protocol.proofs.Fields.{written}
 use Rattle.protocol.proofs.Wholes.{nothing-lost}
 use Rattle.protocol.specs.Forms.{fields, listing, field-count, has-list, made}
 use Rattle.scan.proofs.Back.{Each, spaced-ends, spaced-ends-line, numbers-back, list-back, space-word, space-rest, word-back, rest-back}
-use Rattle.scan.specs.Words.{Read, got, bad, front, next-word, word-in, past-word, numbers-in, list-in, spaced}
+use Rattle.scan.specs.Words.{got, front, numbers-in, list-in, spaced}
 use Rattle.scan.specs.declared.Kind.the-variants as kind
-use Rattle.text.specs.CallLines.{verbs, joint, tail-from, line-from, call-line, place-among, listing-in, rest-in, call-in, placed, line-call, Reads-back}
+use Rattle.text.specs.CallLines.{verbs, joint, tail-from, line-from, call-line, place-among, listing-in, rest-in, call-in, placed, Reads-back}
 use Rattle.text.proofs.Assembled.{list-go}
 use Rattle.text.proofs.Listings.{behind-word, at-end}
 use Rattle.text.proofs.Verbs.{known-word}

@@ -1,13 +1,13 @@
 -- The list of a call behind its word, by the tests that the code makes.
-use mathlib.Core.Path.{_≡_, refl, ap, ap₂, _∙_}
+use mathlib.Core.Path.{_≡_, refl}
 use mathlib.Core.Bool.{Bool, true, false}
-use mathlib.Core.List.{List, [], _∷_}
+use mathlib.Core.List.{List, []}
 use Prim.Native.Nat.{ℕ}
 use lib.Dec.{eqb}
 use lib.ListN.{length}
 use Rattle.meaning.specs.Lines.{pick}
 use Rattle.protocol.specs.Forms.{has-list}
-use Rattle.scan.specs.Words.{Read, got, bad, next-word, word-in, past-word, list-in}
+use Rattle.scan.specs.Words.{got, bad, next-word, word-in, past-word, list-in}
 use Rattle.std.specs.shelf.Text.{sameBytes}
 use Rattle.text.specs.CallLines.{joint, listing-in}
 

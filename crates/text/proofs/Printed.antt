@@ -1,12 +1,11 @@
 -- The line of a call from the parts that the code has of it.
-use mathlib.Core.Path.{_≡_, refl, sym, ap, ap₂, _∙_}
+use mathlib.Core.Path.{_≡_, sym, ap, ap₂, _∙_}
 use mathlib.Core.Bool.{Bool, true, false}
 use mathlib.Core.List.{List, [], _∷_, _++_, append-nil}
 use Prim.Native.Nat.{ℕ}
 use lib.ListN.{getD, take}
 use Rattle.meaning.specs.Lines.{pick}
-use Rattle.meaning.specs.Calls.{call-number}
-use Rattle.protocol.specs.Forms.{Taken-apart, call-of, field-count, fields, has-list, listing}
+use Rattle.protocol.specs.Forms.{Taken-apart, call-of, field-count, has-list, listing}
 use Rattle.protocol.specs.declared.Call.{Call}
 use Rattle.scan.specs.Words.{spaced}
 use Rattle.text.specs.CallLines.{verbs, joint, tail-from, line-from, call-line}

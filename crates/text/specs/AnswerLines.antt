@@ -1,5 +1,4 @@
 -- Answers as lines: `refused 6 at 1`, `80`, `0 held`, `held until 40`, `2 2 0`. Definitions only.
-use mathlib.Core.Bool.{Bool, true, false}
 use mathlib.Core.List.{List, [], _∷_, _++_}
 use Prim.Native.Nat.{ℕ}
 use lib.Chars.{codes}

@@ -1,6 +1,6 @@
 -- Calls as lines: `book 1 2 on 0 1`. How a call is printed, and which call a line is, or where it ceases to be one. Definitions only.
 use mathlib.Core.Path.{_≡_}
-use mathlib.Core.Bool.{Bool, true, false}
+use mathlib.Core.Bool.{true}
 use mathlib.Core.List.{List, [], _∷_, _++_}
 use Prim.Native.Nat.{ℕ, suc, _-_, _≤_}
 use lib.Chars.{codes}

@@ -1,7 +1,6 @@
 -- What the readers of the code answer, in the words of the definitions beside this file. Definitions only.
 use mathlib.Core.Path.{_≡_}
 use mathlib.Core.List.{[]}
-use Prim.Native.Nat.{ℕ}
 use Rattle.meaning.specs.Calls.{Call, garbled}
 use Rattle.protocol.specs.Forms.{call-of}
 use Rattle.scan.specs.Words.{Read, got, bad}

@@ -1,6 +1,5 @@
 // Answers as lines, and numbers in a row.
 ghost use mathlib.Core.Path.{_≡_};
-ghost use mathlib.Core.List.{List, _++_};
 ghost use denote.Ref.{now};
 ghost use Rattle.protocol.specs.Forms.{answer-of};
 ghost use Rattle.scan.specs.Words.{spaced};
@@ -61,11 +60,31 @@ pub impl fmt::Display for AnswerLine<'_> as AnswerLineDisplay {
                 let word = stands_word(stands);
                 write!(f, "{booking} {word}")
             }
-            Answer::Stands { stands: 0, until: _, paid: _ } => write!(f, "waits"),
-            Answer::Stands { stands: 1, until, paid: _ } => write!(f, "held until {until}"),
-            Answer::Stands { stands: 2, until: _, paid } => write!(f, "paid {paid}"),
-            Answer::Stands { stands: _, until: _, paid: 0 } => write!(f, "gone"),
-            Answer::Stands { stands: _, until: _, paid } => write!(f, "gone paid {paid}"),
+            Answer::Stands {
+                stands: 0,
+                until: _,
+                paid: _,
+            } => write!(f, "waits"),
+            Answer::Stands {
+                stands: 1,
+                until,
+                paid: _,
+            } => write!(f, "held until {until}"),
+            Answer::Stands {
+                stands: 2,
+                until: _,
+                paid,
+            } => write!(f, "paid {paid}"),
+            Answer::Stands {
+                stands: _,
+                until: _,
+                paid: 0,
+            } => write!(f, "gone"),
+            Answer::Stands {
+                stands: _,
+                until: _,
+                paid,
+            } => write!(f, "gone paid {paid}"),
             Answer::Sold => write_row(f, self.list),
         }
     }

@@ -1,5 +1,4 @@
 // Calls as lines: printed by their words and numbers, as they are read.
-ghost use denote.Ref.{now};
 ghost use Rattle.protocol.specs.Forms.{call-of};
 ghost use Rattle.std.specs.Of.Vec.{vec-items};
 ghost use Rattle.std.specs.declared.option.Option.the-variants.{Some};

@@ -1,6 +1,5 @@
 // The line that opens a house, `house GAP HOLD LEGS FARES BOOKINGS`: the least time between two
 // legs, how long a hold lasts, and how many legs, fares and bookings there may be.
-ghost use mathlib.Core.Path.{_≡_};
 ghost use denote.Ref.{now};
 ghost use lib.ListN.{length};
 ghost use Rattle.std.specs.declared.option.Option.the-variants.{Some};
@@ -39,14 +38,26 @@ pub fn read_house(line: &[u8]) -> Result<HouseLine, usize>
         return Err(line.len().saturating_sub(over));
     }
     let [gap, hold, legs, fares, bookings] = read.values;
-    Ok(HouseLine { gap, hold, legs, fares, bookings })
+    Ok(HouseLine {
+        gap,
+        hold,
+        legs,
+        fares,
+        bookings,
+    })
 }
 
 pub impl fmt::Display for HouseLine as HouseLineDisplay {
     ghost shown = { λ h. Some (house-line (numbers-of h)) };
 
     fn fmt<W: fmt::Write>(&self, f: &mut fmt::Formatter<W>) -> fmt::Result {
-        let HouseLine { gap, hold, legs, fares, bookings } = *self;
+        let HouseLine {
+            gap,
+            hold,
+            legs,
+            fares,
+            bookings,
+        } = *self;
         f.write_str("house")?;
         write_spaced(f, &[gap, hold, legs, fares, bookings])
     }
@@ -55,5 +66,4 @@ pub impl fmt::Display for HouseLine as HouseLineDisplay {
 // Reading the line that is printed for a house gives it back: a theorem.
 pub fn opens_back()
     ensures { λ _. ⌜ Opens-back ⌝ }
-{
-}
+{}

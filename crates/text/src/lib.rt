@@ -97,7 +97,9 @@ fn read_listing(heap: Global, number: u8, line: &[u8]) -> Result<Vec<u32>, Unrea
     } else if skip_spaces(line).is_empty() {
         return Ok(Vec::new(heap));
     }
-    Err(Unread::Unfit { left: skip_spaces(line).len() })
+    Err(Unread::Unfit {
+        left: skip_spaces(line).len(),
+    })
 }
 
 // The call of this number that a line is behind its first word.
@@ -125,7 +127,9 @@ fn find_call(heap: Global, line: &[u8]) -> Result<CallLine, Unread>
 {
     let first = read_word(line);
     let Some(number) = verb_number(first.word) else {
-        return Err(Unread::Unfit { left: skip_spaces(line).len() });
+        return Err(Unread::Unfit {
+            left: skip_spaces(line).len(),
+        });
     };
     read_rest(heap, number, first.rest)
 }
@@ -137,7 +141,9 @@ pub fn read_call(heap: Global, line: &[u8]) -> Result<CallLine, NoCall>
 {
     match find_call(heap, line) {
         Ok(call) => Ok(call),
-        Err(Unread::Unfit { left }) => Err(NoCall::Unreadable { place: line.len().saturating_sub(left) }),
+        Err(Unread::Unfit { left }) => Err(NoCall::Unreadable {
+            place: line.len().saturating_sub(left),
+        }),
         Err(Unread::NoMemory) => Err(NoCall::NoMemory),
     }
 }
@@ -146,5 +152,4 @@ pub fn read_call(heap: Global, line: &[u8]) -> Result<CallLine, NoCall>
 // that call back: a theorem over the definitions that the contracts of reading and printing cite.
 pub fn reads_back()
     ensures { λ _. ⌜ Reads-back ⌝ }
-{
-}
+{}

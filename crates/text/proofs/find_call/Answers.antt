@@ -1,9 +1,8 @@
 -- By the first word: unknown, or the call's.
-use mathlib.Core.Path.{_≡_, sym, ap, subst, _∙_}
+use mathlib.Core.Path.{_≡_, sym, ap, _∙_}
 use lib.ListN.{length}
 use Rattle.scan.specs.Words.{bad, word-in}
-use Rattle.text.specs.CallLines.{place-among, verbs, call-in}
-use Rattle.text.specs.Told.{Rest-told}
+use Rattle.text.specs.CallLines.{place-among, verbs}
 use Rattle.text.proofs.Verbs.{unknown-word, known-word}
 use Rattle.text.proofs.find_call.Needs as need
 

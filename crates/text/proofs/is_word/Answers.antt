@@ -1,7 +1,5 @@
-use mathlib.Core.Path.{_≡_, sym, subst}
 use Rattle.std.proofs.shelf.Equals.{matches-decides, sameBytes-decides}
 use Rattle.std.proofs.shelf.Ways.{same-from-decides}
-use Rattle.std.specs.shelf.Text.{sameBytes}
 use Rattle.text.proofs.is_word.Needs as need
 
 pub returns : need.returns

@@ -1,10 +1,9 @@
 -- The numbers, then the list, then the call put together from them.
-use mathlib.Core.Path.{_≡_, sym, ap, subst, _∙_}
+use mathlib.Core.Path.{_≡_, sym, ap, _∙_}
 use mathlib.Core.List.{[]}
-use Prim.Native.Nat.{ℕ, min}
-use lib.ListN.{take}
-use Rattle.protocol.specs.Forms.{field-count, made}
-use Rattle.scan.specs.Words.{got, bad, numbers-in}
+use Prim.Native.Nat.{min}
+use Rattle.protocol.specs.Forms.{field-count}
+use Rattle.scan.specs.Words.{got}
 use Rattle.std.proofs.shelf.Results.{err-from-errBy}
 use Rattle.std.specs.Of.Vec.{vec-items}
 use Rattle.text.proofs.Assembled.{few-fields, made-take, numbers-stop, list-stop, list-go}

@@ -1,11 +1,7 @@
 -- The number so far, and the word's place among the verbs that are left, make its place among all.
-use mathlib.Core.Path.{_≡_, sym, ap, _∙_}
-use mathlib.Core.List.{[]}
+use mathlib.Core.Path.{sym}
 use native.Mathlib.Omega.{arith}
-use Prim.Native.Nat.{_<_}
-use lib.ListN.{length, getD, drop}
 use Rattle.std.proofs.shelf.Lists.{at-drop-all}
-use Rattle.std.specs.shelf.Text.{sameBytes}
 use Rattle.text.specs.CallLines.{place-among, verbs}
 use Rattle.text.proofs.Verbs.{found-here, found-later}
 use Rattle.text.proofs.verb_number.Needs as need

@@ -1,5 +1,5 @@
 -- The first number, and then the others, each behind a space.
-use mathlib.Core.Path.{_≡_, refl, sym, ap}
+use mathlib.Core.Path.{refl, sym, ap}
 use Rattle.std.proofs.Writes.{put-more, put-is}
 use Rattle.text.specs.AnswerLines.{in-a-row}
 use Rattle.text.proofs.answers.write_row.Needs as need

@@ -1,11 +1,6 @@
 -- Each turn writes one more number behind what was written.
-use mathlib.Core.Path.{_≡_, refl, sym, ap, subst}
-use mathlib.Core.Bool.{true}
-use mathlib.Core.List.{_∷_, _++_}
-use lib.ListN.{getD, take}
+use mathlib.Core.Path.{refl, sym}
 use Rattle.std.proofs.Writes.{wrote-none, put-more, put-is}
-use Rattle.std.specs.Written.{Put, decimal}
-use Rattle.scan.specs.Words.{spaced}
 use Rattle.text.proofs.Spaced.{spaced-none, spaced-more, spaced-all}
 use Rattle.text.proofs.answers.write_spaced.Needs as need
 

@@ -1,5 +1,5 @@
 -- By the first word, the five numbers, and what stands behind them.
-use mathlib.Core.Path.{_≡_, refl, sym, ap, _∙_}
+use mathlib.Core.Path.{_≡_, sym, ap, _∙_}
 use mathlib.Core.Bool.{true, false}
 use mathlib.Core.List.{[]}
 use native.Mathlib.Omega.{arith}
@@ -9,7 +9,6 @@ use lib.ListN.{length, take}
 use Rattle.scan.specs.Words.{got, bad, next-word, word-in, past-word, numbers-in}
 use Rattle.std.proofs.shelf.Tests.{eq-eqb, ne-eqb}
 use Rattle.std.specs.shelf.Text.{sameBytes}
-use Rattle.text.specs.HouseLines.{house-in}
 use Rattle.text.proofs.Opens.{no-house, a-house, ended, too-long, five-read}
 use Rattle.text.proofs.houses.read_house.Needs as need
 

@@ -1,14 +1,10 @@
 -- The word, the numbers, the word before the list, and the list, one behind the other.
-use mathlib.Core.Path.{_≡_, refl, sym, ap, subst, _∙_}
-use mathlib.Core.List.{[], _∷_, _++_}
+use mathlib.Core.Path.{_≡_, refl, sym}
 use native.Mathlib.Omega.{arith}
 use Prim.Native.Nat.{_-_}
-use lib.ListN.{getD, take}
 use Rattle.protocol.specs.Forms.{field-count}
-use Rattle.scan.specs.Words.{spaced}
 use Rattle.std.proofs.Writes.{put-more, put-is}
 use Rattle.std.specs.Of.Vec.{vec-items}
-use Rattle.text.specs.CallLines.{joint, verbs}
 use Rattle.text.proofs.Printed.{line-listed, line-unlisted}
 use Rattle.text.proofs.calls.CallLineDisplay.fmt.Needs as need
 

@@ -1,6 +1,6 @@
 -- The word, and behind it the five numbers.
-use mathlib.Core.Path.{_≡_, refl}
-use Rattle.std.proofs.Writes.{put-more, put-is}
+use mathlib.Core.Path.{refl}
+use Rattle.std.proofs.Writes.{put-more}
 use Rattle.text.proofs.houses.HouseLineDisplay.fmt.Needs as need
 
 pub returns : need.returns
