@@ -1,0 +1,63 @@
+-- Numbers in fields: how long they are, and that they can be read back.
+use mathlib.Core.Path.{_≡_, refl, sym, ap, _∙_}
+use mathlib.Core.List.{List, [], _∷_, _++_}
+use Prim.Native.Nat.{ℕ, zero, suc, _+_, _*_, _/_, _%_, _^_, _≤_, _<_}
+use native.Mathlib.Omega.{arith}
+use lib.ListN.{length, getD, take, drop, length-append}
+use Rattle.wire.specs.Bytes.{bytes-of, number-of, row-of, numbers-in, Bytes}
+
+-- the four bytes from a place on
+pub four-at : (w : List ℕ) (at : ℕ) → at + 4 ≤ length w →
+    number-of (take 4 (drop at w)) ≡ getD w at 0 + getD w (at + 1) 0 * 256 + getD w (at + 2) 0 * 65536 + getD w (at + 3) 0 * 16777216
+unfolding number-of
+four-at [] at h = absurd (omega arith)
+four-at (a ∷ []) zero h = absurd (omega arith)
+four-at (a ∷ (b ∷ [])) zero h = absurd (omega arith)
+four-at (a ∷ (b ∷ (c ∷ []))) zero h = absurd (omega arith)
+four-at (a ∷ (b ∷ (c ∷ (d ∷ w)))) zero h = omega arith
+four-at (a ∷ w) (suc at) h =
+    let e1 : suc at + 1 ≡ suc (at + 1) = omega arith in
+    let e2 : suc at + 2 ≡ suc (at + 2) = omega arith in
+    let e3 : suc at + 3 ≡ suc (at + 3) = omega arith in
+    rw (e1, e2, e3) (four-at w at (omega arith))
+
+-- how many numbers a row of fields has
+pub numbers-length : (w : List ℕ) → length (numbers-in w) ≡ length w / 4
+unfolding numbers-in
+numbers-length [] = refl
+numbers-length (a ∷ []) = refl
+numbers-length (a ∷ (b ∷ [])) = refl
+numbers-length (a ∷ (b ∷ (c ∷ []))) = refl
+numbers-length (a ∷ (b ∷ (c ∷ (d ∷ w)))) = let e = numbers-length w in omega arith
+
+-- the number in one of them
+pub numbers-at : (w : List ℕ) (i : ℕ) → i < length w / 4 → getD (numbers-in w) i 0 ≡ number-of (take 4 (drop (i * 4) w))
+unfolding numbers-in
+numbers-at [] i h = absurd (omega arith)
+numbers-at (a ∷ []) i h = absurd (omega arith)
+numbers-at (a ∷ (b ∷ [])) i h = absurd (omega arith)
+numbers-at (a ∷ (b ∷ (c ∷ []))) i h = absurd (omega arith)
+numbers-at (a ∷ (b ∷ (c ∷ (d ∷ w)))) zero h = refl
+numbers-at (a ∷ (b ∷ (c ∷ (d ∷ w)))) (suc i) h =
+    let e : suc i * 4 ≡ suc (suc (suc (suc (i * 4)))) = omega arith in
+    rw e (numbers-at w i (omega arith))
+
+pub bytes-length : (width n : ℕ) → length (bytes-of width n) ≡ width
+unfolding bytes-of
+bytes-length zero n = refl
+bytes-length (suc width) n = ap suc (bytes-length width (n / 256))
+
+pub row-length : (width : ℕ) (ns : List ℕ) → length (row-of width ns) ≡ width * length ns
+unfolding row-of
+row-length width [] = omega arith
+row-length width (n ∷ ns) =
+    let e = row-length width ns in
+    let b = bytes-length width n in
+    let m : width * suc (length ns) ≡ width * length ns + width = native.Mathlib.Nat.mul-suc width (length ns) in
+    length-append (bytes-of width n) (row-of width ns) ∙ omega arith
+
+-- one more number at the end of a row
+pub row-push : (width : ℕ) (ns : List ℕ) (n : ℕ) → row-of width (ns ++ (n ∷ [])) ≡ row-of width ns ++ bytes-of width n
+unfolding row-of
+row-push width [] n = mathlib.Core.List.append-nil (bytes-of width n)
+row-push width (m ∷ ns) n = ap (λ x. bytes-of width m ++ x) (row-push width ns n) ∙ sym (mathlib.Core.List.append-assoc (bytes-of width m) (row-of width ns) (bytes-of width n))

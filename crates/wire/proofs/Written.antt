@@ -1,0 +1,57 @@
+-- Rows written over: one behind the other is both at once.
+use mathlib.Core.Path.{_≡_, refl, sym, ap, _∙_}
+use mathlib.Core.List.{List, [], _∷_, _++_, append-assoc}
+use Prim.Native.Nat.{ℕ, zero, suc, _+_, _*_, _/_, _%_, _≤_, _<_}
+use borrow.Rule.Slice.PartMut.{putMid}
+use native.Mathlib.Omega.{arith}
+use lib.ListN.{length, set, take, drop, length-append, length-take, length-drop}
+use Rattle.std.proofs.shelf.Lists.{drop-drop, take-append-drop, length-take-le, take-at, drop-at, set-split}
+use Rattle.wire.specs.Bytes.{bytes-of, over}
+
+-- nothing written
+pub over-none : (at : ℕ) (old : List ℕ) → over at [] old ≡ old
+unfolding over
+over-none at old = ap (λ n. take at old ++ drop n old) (native.Mathlib.Nat.add-zero at) ∙ take-append-drop at old
+
+-- a part lent and filled
+pub over-part : (at k : ℕ) (old new : List ℕ) → length new ≡ k → putMid at k old new ≡ over at new old
+unfolding over
+over-part at k old new e = ap (λ x. take at old ++ (new ++ x)) (drop-drop k at old ∙ ap (λ n. drop (at + n) old) (sym e))
+
+-- one byte
+pub over-byte : (at : ℕ) (b : ℕ) (old : List ℕ) → at < length old → set old at b ≡ over at (b ∷ []) old
+unfolding over
+over-byte at b old h = let e : suc at ≡ at + 1 = omega arith in set-split old at b h ∙ ap (λ n. take at old ++ (b ∷ drop n old)) e
+
+-- a second row right behind the first
+pub over-more : (at here : ℕ) (a b old : List ℕ) → at + length a ≤ length old → here ≡ at + length a → over here b (over at a old) ≡ over at (a ++ b) old
+unfolding over
+over-more at here a b old h e =
+    let n : length (take at old) ≡ at = length-take-le at old (omega arith) in
+    let p : length (take at old ++ a) ≡ here = length-append (take at old) a ∙ omega arith in
+    let w : over at a old ≡ (take at old ++ a) ++ drop here old = ap (λ m. take at old ++ (a ++ drop m old)) (sym e) ∙ sym (append-assoc (take at old) a (drop here old)) in
+    let q : here + length b ≡ at + length (a ++ b) = let z = length-append a b in omega arith in
+    let f : take here (over at a old) ≡ take at old ++ a = ap (take here) w ∙ take-at (take at old ++ a) (drop here old) here p in
+    let g : drop (here + length b) (over at a old) ≡ drop (at + length (a ++ b)) old =
+    sym (drop-drop (length b) here (over at a old)) ∙ (ap (λ x. drop (length b) x) (ap (drop here) w ∙ drop-at (take at old ++ a) (drop here old) here p) ∙ (drop-drop (length b) here old ∙ ap (λ m. drop m old) q)) in
+    ap (λ x. x ++ (b ++ drop (here + length b) (over at a old))) f
+    ∙ (append-assoc (take at old) a (b ++ drop (here + length b) (over at a old))
+    ∙ ap (λ x. take at old ++ x) (sym (append-assoc a b (drop (here + length b) (over at a old))) ∙ ap (λ x. (a ++ b) ++ x) g))
+
+-- a row written over keeps the length
+pub over-length : (at : ℕ) (new old : List ℕ) → at + length new ≤ length old → length (over at new old) ≡ length old
+unfolding over
+over-length at new old h = simp (length-append, length-take, length-drop) (omega arith)
+
+-- the four bytes of a number, as the code has them
+pub four-bytes : (n : ℕ) → (n % 256) ∷ ((n / 256 % 256) ∷ ((n / 65536 % 256) ∷ ((n / 16777216 % 256) ∷ []))) ≡ bytes-of 4 n
+unfolding bytes-of
+four-bytes n =
+    let a : n / 65536 % 256 ≡ n / 256 / 256 % 256 = omega arith in
+    let b : n / 16777216 % 256 ≡ n / 256 / 256 / 256 % 256 = omega arith in
+    rw (a, b)
+
+-- from the front on it is the new row and what stood behind
+pub over-front : (new old : List ℕ) → over 0 new old ≡ new ++ drop (length new) old
+unfolding over
+over-front new old = ap (λ n. new ++ drop n old) (native.Mathlib.Nat.zero-add (length new))

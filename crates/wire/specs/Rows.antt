@@ -1,0 +1,89 @@
+-- Which bytes a call and an answer have, and which call a row of bytes is. Definitions only.
+use mathlib.Core.Path.{_≡_}
+use mathlib.Core.Logic.{_⊎_}
+use mathlib.Core.List.{List, [], _∷_, _++_}
+use Prim.Native.Nat.{ℕ, _+_, _*_, _≤_, _<_}
+use denote.Ref.{now}
+use lib.Dec.{ltb}
+use lib.ListN.{length, getD, take, drop}
+use Rattle.meaning.specs.Lines.{pick}
+use Rattle.meaning.specs.Calls.{Call, Answer, garbled, call-number, refused, number, two, stands-so, sold}
+use Rattle.protocol.specs.Forms.{call-of, fields, listing, field-count, has-list, made}
+use Rattle.wire.specs.Bytes.{row-of, numbers-in}
+use Rattle.wire.specs.declared.Decoded.{Decoded}
+use Rattle.std.specs.declared.option.Option.{Option}
+use Rattle.std.specs.declared.option.Option.the-variants.{Some, None}
+use Rattle.std.specs.declared.result.Result.{Result}
+use Rattle.std.specs.declared.result.Result.the-variants.{Ok, Err}
+
+-- a call's number in a byte, its numbers in four bytes each, and its list, if it has one, behind its count in a byte
+unfoldable pub in-bytes : ℕ → List ℕ → List ℕ → List ℕ
+in-bytes k fs list = k ∷ (row-of 4 fs ++ pick (has-list k) (length list ∷ row-of 4 list) [])
+
+-- THE BYTES OF A CALL; what can't be read has a first byte that no call has
+unfoldable pub encoded : Call → List ℕ
+encoded c = in-bytes (call-number c) (fields c) (listing c)
+
+-- where the numbers of call k end: there stands its count, or nothing
+abbrev pub fields-end : ℕ → ℕ
+fields-end k = 1 + 4 * field-count k
+
+-- where its list begins
+unfoldable pub list-at : ℕ → ℕ
+list-at k = pick (has-list k) (fields-end k + 1) (fields-end k)
+
+-- how many bytes a row of call k should have; a count that is missing counts as 0
+unfoldable pub extent : ℕ → List ℕ → ℕ
+extent k bs = pick (has-list k) (fields-end k + 1 + 4 * getD bs (fields-end k) 0) (fields-end k)
+
+-- a row of bytes read as call k, or the place of the first byte that doesn't fit: 0 where no call has this number, the row's length where bytes are missing, and the place of the first byte too many
+unfoldable pub read-as : ℕ → List ℕ → Call
+read-as k bs =
+    pick (ltb 10 k) (garbled 0)
+    (pick (ltb (length bs) (extent k bs)) (garbled (length bs))
+    (pick (ltb (extent k bs) (length bs)) (garbled (extent k bs))
+    (made k (take (field-count k) (numbers-in (drop 1 bs))) (numbers-in (drop (list-at k) bs)))))
+
+-- THE CALL OF A ROW OF BYTES: its first byte is the call's number; a row without one is no call from place 0 on
+abbrev pub decoded : List ℕ → Call
+decoded bs = read-as (getD bs 0 255) bs
+
+-- what the decoder tells: a call with the part of the bytes that is its list, or the place
+abbrev pub told : Result Decoded ℕ → Call
+told (Ok d) = call-of (d .call) (numbers-in (now (d .list)))
+told (Err n) = garbled n
+
+-- number i of a part that is a list, or none beyond the last
+abbrev pub Number-at : List ℕ → ℕ → Option ℕ → Type 0
+Number-at part i (Some n) = (i < length (numbers-in part)) × (n ≡ getD (numbers-in part) i 0)
+Number-at part i None = length (numbers-in part) ≤ i
+
+-- bytes written at the front of others; what stands behind them stays
+abbrev pub in-front : List ℕ → List ℕ → List ℕ
+in-front new old = new ++ drop (length new) old
+
+-- a call written at the front of a row: its length and the row then; none where its list is longer than a byte can count or the row is too short, and then nothing is written
+abbrev pub Call-written : Call → List ℕ → List ℕ → Option ℕ → Type 0
+Call-written c old new (Some n) = (length (listing c) ≤ 255) × (length (encoded c) ≤ length old) × (n ≡ length (encoded c)) × (new ≡ in-front (encoded c) old)
+Call-written c old new None = ((255 < length (listing c)) ⊎ (length old < length (encoded c))) × (new ≡ old)
+
+-- THE BYTES OF AN ANSWER: its number in a byte, and its values in eight bytes each; what is sold comes behind its count in a byte
+abbrev pub answer-bytes : Answer → List ℕ
+answer-bytes (refused n p) = 0 ∷ row-of 8 (n ∷ (p ∷ []))
+answer-bytes (number n) = 1 ∷ row-of 8 (n ∷ [])
+answer-bytes (two k s) = 2 ∷ row-of 8 (k ∷ (s ∷ []))
+answer-bytes (stands-so s u p) = 3 ∷ row-of 8 (s ∷ (u ∷ (p ∷ [])))
+answer-bytes (sold ns) = 4 ∷ (length ns ∷ row-of 8 ns)
+
+-- how long an answer's list is
+abbrev pub answer-list : Answer → ℕ
+answer-list (refused n p) = 0
+answer-list (number n) = 0
+answer-list (two k s) = 0
+answer-list (stands-so s u p) = 0
+answer-list (sold ns) = length ns
+
+-- an answer written at the front of a row: its length and the row then; none where more than 26 are sold, one for each class, and then nothing is written
+abbrev pub Answer-written : Answer → List ℕ → List ℕ → Option ℕ → Type 0
+Answer-written a old new (Some n) = (answer-list a ≤ 26) × (n ≡ length (answer-bytes a)) × (new ≡ in-front (answer-bytes a) old)
+Answer-written a old new None = (26 < answer-list a) × (new ≡ old)

@@ -1,0 +1,39 @@
+-- What is promised of the bytes of calls and answers. Statements only; each is the contract of a function.
+use mathlib.Core.Path.{_≡_}
+use mathlib.Core.Bool.{true}
+use mathlib.Core.List.{List}
+use Prim.Native.Nat.{ℕ, _≤_}
+use lib.ListN.{length}
+use Rattle.meaning.specs.Calls.{Call, Answer, call-number}
+use Rattle.meaning.specs.Promise.{readable}
+use Rattle.wire.specs.Bytes.{Bytes}
+use Rattle.wire.specs.Rows.{encoded, decoded, answer-bytes, answer-list}
+
+-- a call that can be written in its fields; what can't be read is none
+pub record Can-be-written (c : Call) : Type 0 where
+  pub fits : readable c ≡ true
+  pub is-call : call-number c ≤ 10
+
+-- decoding what was encoded gives the call
+abbrev pub Calls-come-back : Type 0
+Calls-come-back = (c : Call) → Can-be-written c → decoded (encoded c) ≡ c
+
+-- encoding what was decoded gives the bytes, of every row that is a call
+abbrev pub Bytes-come-back : Type 0
+Bytes-come-back = (bs : List ℕ) → Bytes bs → call-number (decoded bs) ≤ 10 → encoded (decoded bs) ≡ bs
+
+-- a row that is a call is one that can be written
+abbrev pub Calls-fit : Type 0
+Calls-fit = (bs : List ℕ) → Bytes bs → call-number (decoded bs) ≤ 10 → Can-be-written (decoded bs)
+
+-- no two calls have the same bytes
+abbrev pub None-alike : Type 0
+None-alike = (c d : Call) → Can-be-written c → Can-be-written d → encoded c ≡ encoded d → c ≡ d
+
+-- every call that can be written has so many bytes at most
+abbrev pub Calls-within : ℕ → Type 0
+Calls-within n = (c : Call) → Can-be-written c → length (encoded c) ≤ n
+
+-- every answer with at most 26 in its list has so many bytes at most
+abbrev pub Answers-within : ℕ → Type 0
+Answers-within n = (a : Answer) → answer-list a ≤ 26 → length (answer-bytes a) ≤ n
