@@ -2,6 +2,7 @@
 use mathlib.Core.Path.{_≡_, refl, sym, ap, _∙_}
 use mathlib.Core.List.{List, [], _∷_, _++_}
 use Prim.Native.Nat.{ℕ, zero, suc, _+_, _*_, _/_, _%_, _^_, _≤_, _<_}
+use native.Mathlib.Nat.{pow-suc}
 use native.Mathlib.Omega.{arith}
 use lib.ListN.{length, getD, take, drop, length-append}
 use Rattle.wire.specs.Bytes.{bytes-of, number-of, row-of, numbers-in, Bytes}
@@ -61,3 +62,22 @@ pub row-push : (width : ℕ) (ns : List ℕ) (n : ℕ) → row-of width (ns ++ (
 unfolding row-of
 row-push width [] n = mathlib.Core.List.append-nil (bytes-of width n)
 row-push width (m ∷ ns) n = ap (λ x. bytes-of width m ++ x) (row-push width ns n) ∙ sym (mathlib.Core.List.append-assoc (bytes-of width m) (row-of width ns) (bytes-of width n))
+
+-- a number that fits a field is read from it
+pub number-back : (width n : ℕ) → n < 256 ^ width → number-of (bytes-of width n) ≡ n
+unfolding number-of bytes-of
+number-back zero n h = omega arith
+number-back (suc width) n h =
+    let p : 256 ^ suc width ≡ 256 ^ width * 256 = pow-suc 256 width in
+    let e : number-of (bytes-of width (n / 256)) ≡ n / 256 = number-back width (n / 256) (omega arith) in
+    omega arith
+
+-- and bytes are those of their number
+pub bytes-back : (bs : List ℕ) → Bytes bs → bytes-of (length bs) (number-of bs) ≡ bs
+unfolding number-of bytes-of Bytes
+bytes-back [] b = refl
+bytes-back (x ∷ bs) b =
+    let p : x < 256 = b .0 in
+    let e : (x + 256 * number-of bs) % 256 ≡ x = omega arith in
+    let f : (x + 256 * number-of bs) / 256 ≡ number-of bs = omega arith in
+    rw (e, f, bytes-back bs (b .1))

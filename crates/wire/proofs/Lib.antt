@@ -2,3 +2,4 @@ pub mod Fields
 pub mod Written
 pub mod Decoding
 pub mod Encoding
+pub mod Back

@@ -4,10 +4,10 @@ use mathlib.Core.Bool.{true}
 use mathlib.Core.List.{List}
 use Prim.Native.Nat.{ℕ, _≤_}
 use lib.ListN.{length}
-use Rattle.meaning.specs.Calls.{Call, Answer, call-number}
+use Rattle.meaning.specs.Calls.{Call, call-number}
 use Rattle.meaning.specs.Promise.{readable}
 use Rattle.wire.specs.Bytes.{Bytes}
-use Rattle.wire.specs.Rows.{encoded, decoded, answer-bytes, answer-list}
+use Rattle.wire.specs.Rows.{encoded, decoded}
 
 -- a call that can be written in its fields; what can't be read is none
 pub record Can-be-written (c : Call) : Type 0 where
@@ -34,6 +34,7 @@ None-alike = (c d : Call) → Can-be-written c → Can-be-written d → encoded 
 abbrev pub Calls-within : ℕ → Type 0
 Calls-within n = (c : Call) → Can-be-written c → length (encoded c) ≤ n
 
--- every answer with at most 26 in its list has so many bytes at most
-abbrev pub Answers-within : ℕ → Type 0
-Answers-within n = (a : Answer) → answer-list a ≤ 26 → length (answer-bytes a) ≤ n
+-- the most bytes that a call has
+pub record Most-bytes (n : ℕ) : Type 0 where
+  pub enough : Calls-within n
+  pub least : (m : ℕ) → Calls-within m → n ≤ m

@@ -6,6 +6,7 @@ ghost use Prim.Native.Nat.{ℕ, _+_, _*_, _≤_, _<_};
 ghost use lib.ListN.{length, getD, take, drop};
 ghost use Rattle.protocol.specs.Forms.{call-of, field-count};
 ghost use Rattle.wire.specs.Bytes.{number-of, numbers-in, over, row-of};
+ghost use Rattle.wire.specs.Theorems.{Bytes-come-back, Calls-come-back, Calls-fit, Most-bytes, None-alike};
 ghost use Rattle.wire.specs.Rows.{Call-written, Number-at, decoded, extent, list-at, told};
 use protocol::Call;
 use protocol::field_count;
@@ -166,3 +167,25 @@ pub fn encode_call(call: Call, list: &[u32], out: &mut [u8]) -> Option<usize>
     put_list(out, end, list);
     Some(length)
 }
+
+// No call that can be written in its fields has more bytes.
+pub const MAX_CALL: usize = 1038;
+
+// That number, and the theorem that it is the most.
+pub fn most_call_bytes() -> usize
+    ensures { λ r. ⌜ (r ≡ 1038) × Most-bytes r ⌝ }
+{
+    MAX_CALL
+}
+
+// Decoding what was encoded gives the call, of every call that can be written in its fields; so no
+// two calls have the same bytes. The theorems do nothing when called.
+pub fn calls_come_back()
+    ensures { λ _. ⌜ Calls-come-back × None-alike ⌝ }
+{}
+
+// Encoding what was decoded gives the bytes, of every row that is a call, and it is one that can be
+// written in its fields.
+pub fn bytes_come_back()
+    ensures { λ _. ⌜ Bytes-come-back × Calls-fit ⌝ }
+{}
