@@ -1,16 +1,15 @@
 -- What was encoded is decoded, and what was decoded is encoded.
 use mathlib.Core.Path.{_≡_, refl, sym, ap, _∙_, subst}
-use mathlib.Core.Bool.{Bool, true, false, _&&_}
-use mathlib.Core.Logic.{_⊎_, inl, inr, ⊎-elim}
+use mathlib.Core.Bool.{Bool, true, false}
+use mathlib.Core.Logic.{⊎-elim}
 use mathlib.Core.List.{List, [], _∷_, _++_, append-nil, append-assoc}
-use Prim.Native.Nat.{ℕ, zero, suc, _+_, _*_, _/_, _%_, _≤_, _<_}
+use Prim.Native.Nat.{ℕ, zero, suc, _+_, _*_, _≤_, _<_}
 use native.Mathlib.Omega.{arith}
-use lib.Dec.{ltb, leb, lit<, lit≤}
+use lib.Dec.{lit<, lit≤}
 use lib.ListN.{length, getD, take, drop, length-append, length-drop, replicate}
 use Rattle.std.proofs.shelf.Lists.{drop-all, drop-at, getD-at, take-all, take-append-drop, drop-more, length-take-le}
 use Rattle.std.proofs.shelf.Tests.{cases-lt, cases-order, lt-ltb, ltb-true, and-parts, and-from}
 use Rattle.std.proofs.shelf.Ways.{tells}
-use Rattle.meaning.specs.Lines.{pick}
 use Rattle.meaning.specs.Calls.{Call, opens, files, books, pays, cancels, limits-to, ticks, free, price-of, booking, leg-is, garbled, call-number}
 use Rattle.meaning.specs.Promise.{field, all-fields, short, readable}
 use Rattle.protocol.specs.Forms.{fields, listing, field-count, has-list, made}
@@ -144,7 +143,7 @@ byte-at (suc n) (x ∷ w) b = byte-at n w (b .1)
 
 -- numbers of four bytes fit a field
 fields-from : (w : List ℕ) → Bytes w → all-fields (numbers-in w) ≡ true
-unfolding numbers-in Bytes all-fields number-of
+unfolding numbers-in Bytes all-fields
 fields-from [] b = refl
 fields-from (x ∷ []) b = refl
 fields-from (x ∷ (y ∷ [])) b = refl
@@ -206,17 +205,17 @@ unfolding call-number
 no-call c n e h = let z : call-number c ≡ 255 = ap call-number (sym e) in absurd (omega arith)
 
 whole-row : (bs : List ℕ) → call-number (decoded bs) ≤ 10 → Whole bs (getD bs 0 0)
-whole-row [] h = no-call (decoded []) 0 (decoded-empty [] refl) h
+whole-row [] h = no-call (decoded []) 0 (decoded-empty [] 0 refl refl) h
 whole-row (k ∷ bs) h = ⊎-elim unknown known (cases-lt 10 k)
   where
     unknown : 10 < k → Whole (k ∷ bs) k
-    unknown l = no-call _ 0 (decoded-unknown (k ∷ bs) k (omega arith) refl l) h
+    unknown l = no-call _ 0 (decoded-unknown (k ∷ bs) k 0 (omega arith) refl l refl) h
 
     known : k ≤ 10 → Whole (k ∷ bs) k
     known l =
         ⊎-elim
         (λ e. record { some-byte = omega arith; first = refl; known = l; long = e })
-        (λ o. ⊎-elim (λ p. no-call _ _ (decoded-short (k ∷ bs) k (omega arith) refl l p) h) (λ p. no-call _ _ (decoded-long (k ∷ bs) k (omega arith) refl l p) h) o)
+        (λ o. ⊎-elim (λ p. no-call _ _ (decoded-short (k ∷ bs) k _ (omega arith) refl l p refl) h) (λ p. no-call _ _ (decoded-long (k ∷ bs) k _ (omega arith) refl l p refl) h) o)
         (cases-order (length (k ∷ bs)) (extent k (k ∷ bs)))
 
 -- the numbers of such a row, and its list
@@ -279,7 +278,7 @@ made-of k rest w = sym (decoded-whole (k ∷ rest) k (w .some-byte) (w .first) (
 
 pub bytes-come-back : Bytes-come-back
 unfolding Bytes
-bytes-come-back [] b h = no-call (decoded []) 0 (decoded-empty [] refl) h
+bytes-come-back [] b h = no-call (decoded []) 0 (decoded-empty [] 0 refl refl) h
 bytes-come-back (k ∷ rest) b h =
     let w = whole-row (k ∷ rest) h in
     let p = row-parts k rest (b .1) w in
@@ -309,7 +308,7 @@ readable-made = each-call (λ k. (fs list : List ℕ) → all-fields fs ≡ true
 
 pub calls-fit : Calls-fit
 unfolding Bytes
-calls-fit [] b h = no-call (decoded []) 0 (decoded-empty [] refl) h
+calls-fit [] b h = no-call (decoded []) 0 (decoded-empty [] 0 refl refl) h
 calls-fit (k ∷ rest) b h =
     let w = whole-row (k ∷ rest) h in
     let p = row-parts k rest (b .1) w in

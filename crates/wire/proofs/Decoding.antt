@@ -1,15 +1,14 @@
 -- Which call a row of bytes is, case by case.
 use mathlib.Core.Path.{_≡_, refl, sym, ap, _∙_}
 use mathlib.Core.Bool.{Bool, true, false}
-use mathlib.Core.List.{List, [], _∷_, _++_}
+use mathlib.Core.List.{List, [], _∷_}
 use Prim.Native.Nat.{ℕ, zero, suc, _+_, _*_, _≤_, _<_}
 use native.Mathlib.Omega.{arith}
 use lib.Dec.{lit<, lit≤}
 use lib.ListN.{length, getD, take, drop}
 use Rattle.std.proofs.shelf.Lists.{getD-default}
 use Rattle.std.proofs.shelf.Tests.{lt-ltb, le-ltb}
-use Rattle.meaning.specs.Lines.{pick}
-use Rattle.meaning.specs.Calls.{Call, garbled}
+use Rattle.meaning.specs.Calls.{garbled}
 use Rattle.protocol.specs.Forms.{field-count, has-list, made}
 use Rattle.wire.specs.Bytes.{numbers-in}
 use Rattle.wire.specs.Rows.{list-at, extent, read-as, decoded}
@@ -50,18 +49,18 @@ whole bs k h l = rw (le-ltb 10 k h, le-ltb (length bs) (extent k bs) (omega arit
 first : (bs : List ℕ) (k : ℕ) → 0 < length bs → k ≡ getD bs 0 0 → getD bs 0 255 ≡ k
 first bs k h e = getD-default bs 0 255 0 h ∙ sym e
 
-pub decoded-empty : (bs : List ℕ) → length bs ≡ 0 → garbled 0 ≡ decoded bs
-decoded-empty [] e = sym (unknown [] 255 (lit< tt))
-decoded-empty (b ∷ bs) e = absurd (omega arith)
+pub decoded-empty : (bs : List ℕ) (n : ℕ) → length bs ≡ 0 → n ≡ 0 → garbled n ≡ decoded bs
+decoded-empty [] n e z = ap garbled z ∙ sym (unknown [] 255 (lit< tt))
+decoded-empty (b ∷ bs) n e z = absurd (omega arith)
 
-pub decoded-unknown : (bs : List ℕ) (k : ℕ) → 0 < length bs → k ≡ getD bs 0 0 → 10 < k → garbled 0 ≡ decoded bs
-decoded-unknown bs k n e h = sym (ap (λ x. read-as x bs) (first bs k n e) ∙ unknown bs k h)
+pub decoded-unknown : (bs : List ℕ) (k n : ℕ) → 0 < length bs → k ≡ getD bs 0 0 → 10 < k → n ≡ 0 → garbled n ≡ decoded bs
+decoded-unknown bs k n s e h z = ap garbled z ∙ sym (ap (λ x. read-as x bs) (first bs k s e) ∙ unknown bs k h)
 
-pub decoded-short : (bs : List ℕ) (k : ℕ) → 0 < length bs → k ≡ getD bs 0 0 → k ≤ 10 → length bs < extent k bs → garbled (length bs) ≡ decoded bs
-decoded-short bs k n e h l = sym (ap (λ x. read-as x bs) (first bs k n e) ∙ short bs k h l)
+pub decoded-short : (bs : List ℕ) (k n : ℕ) → 0 < length bs → k ≡ getD bs 0 0 → k ≤ 10 → length bs < extent k bs → n ≡ length bs → garbled n ≡ decoded bs
+decoded-short bs k n s e h l z = ap garbled z ∙ sym (ap (λ x. read-as x bs) (first bs k s e) ∙ short bs k h l)
 
-pub decoded-long : (bs : List ℕ) (k : ℕ) → 0 < length bs → k ≡ getD bs 0 0 → k ≤ 10 → extent k bs < length bs → garbled (extent k bs) ≡ decoded bs
-decoded-long bs k n e h l = sym (ap (λ x. read-as x bs) (first bs k n e) ∙ long bs k h l)
+pub decoded-long : (bs : List ℕ) (k n : ℕ) → 0 < length bs → k ≡ getD bs 0 0 → k ≤ 10 → extent k bs < length bs → n ≡ extent k bs → garbled n ≡ decoded bs
+decoded-long bs k n s e h l z = ap garbled z ∙ sym (ap (λ x. read-as x bs) (first bs k s e) ∙ long bs k h l)
 
 pub decoded-whole : (bs : List ℕ) (k : ℕ) → 0 < length bs → k ≡ getD bs 0 0 → k ≤ 10 → length bs ≡ extent k bs →
     made k (take (field-count k) (numbers-in (drop 1 bs))) (numbers-in (drop (list-at k) bs)) ≡ decoded bs

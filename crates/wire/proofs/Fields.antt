@@ -4,23 +4,8 @@ use mathlib.Core.List.{List, [], _∷_, _++_}
 use Prim.Native.Nat.{ℕ, zero, suc, _+_, _*_, _/_, _%_, _^_, _≤_, _<_}
 use native.Mathlib.Nat.{pow-suc}
 use native.Mathlib.Omega.{arith}
-use lib.ListN.{length, getD, take, drop, length-append}
-use Rattle.wire.specs.Bytes.{bytes-of, number-of, row-of, numbers-in, Bytes}
-
--- the four bytes from a place on
-pub four-at : (w : List ℕ) (at : ℕ) → at + 4 ≤ length w →
-    number-of (take 4 (drop at w)) ≡ getD w at 0 + getD w (at + 1) 0 * 256 + getD w (at + 2) 0 * 65536 + getD w (at + 3) 0 * 16777216
-unfolding number-of
-four-at [] at h = absurd (omega arith)
-four-at (a ∷ []) zero h = absurd (omega arith)
-four-at (a ∷ (b ∷ [])) zero h = absurd (omega arith)
-four-at (a ∷ (b ∷ (c ∷ []))) zero h = absurd (omega arith)
-four-at (a ∷ (b ∷ (c ∷ (d ∷ w)))) zero h = omega arith
-four-at (a ∷ w) (suc at) h =
-    let e1 : suc at + 1 ≡ suc (at + 1) = omega arith in
-    let e2 : suc at + 2 ≡ suc (at + 2) = omega arith in
-    let e3 : suc at + 3 ≡ suc (at + 3) = omega arith in
-    rw (e1, e2, e3) (four-at w at (omega arith))
+use lib.ListN.{length, getD, drop, length-append}
+use Rattle.wire.specs.Bytes.{bytes-of, number-of, four-at, row-of, numbers-in, Bytes}
 
 -- how many numbers a row of fields has
 pub numbers-length : (w : List ℕ) → length (numbers-in w) ≡ length w / 4
@@ -32,7 +17,7 @@ numbers-length (a ∷ (b ∷ (c ∷ []))) = refl
 numbers-length (a ∷ (b ∷ (c ∷ (d ∷ w)))) = let e = numbers-length w in omega arith
 
 -- the number in one of them
-pub numbers-at : (w : List ℕ) (i : ℕ) → i < length w / 4 → getD (numbers-in w) i 0 ≡ number-of (take 4 (drop (i * 4) w))
+pub numbers-at : (w : List ℕ) (i : ℕ) → i < length w / 4 → getD (numbers-in w) i 0 ≡ number-of (four-at w (i * 4))
 unfolding numbers-in
 numbers-at [] i h = absurd (omega arith)
 numbers-at (a ∷ []) i h = absurd (omega arith)
@@ -40,8 +25,21 @@ numbers-at (a ∷ (b ∷ [])) i h = absurd (omega arith)
 numbers-at (a ∷ (b ∷ (c ∷ []))) i h = absurd (omega arith)
 numbers-at (a ∷ (b ∷ (c ∷ (d ∷ w)))) zero h = refl
 numbers-at (a ∷ (b ∷ (c ∷ (d ∷ w)))) (suc i) h =
-    let e : suc i * 4 ≡ suc (suc (suc (suc (i * 4)))) = omega arith in
-    rw e (numbers-at w i (omega arith))
+    let e1 : suc i * 4 + 1 ≡ suc (suc (suc (suc (i * 4 + 1)))) = omega arith in
+    let e2 : suc i * 4 + 2 ≡ suc (suc (suc (suc (i * 4 + 2)))) = omega arith in
+    let e3 : suc i * 4 + 3 ≡ suc (suc (suc (suc (i * 4 + 3)))) = omega arith in
+    let e0 : suc i * 4 ≡ suc (suc (suc (suc (i * 4)))) = omega arith in
+    rw (e1, e2, e3, e0) (numbers-at w i (omega arith))
+
+-- and behind the first byte of a row
+pub numbers-behind : (w : List ℕ) (i : ℕ) → 1 + (i * 4 + 4) ≤ length w → getD (numbers-in (drop 1 w)) i 0 ≡ number-of (four-at w (1 + i * 4))
+numbers-behind [] i h = absurd (omega arith)
+numbers-behind (a ∷ w) i h =
+    let e1 : 1 + i * 4 + 1 ≡ suc (i * 4 + 1) = omega arith in
+    let e2 : 1 + i * 4 + 2 ≡ suc (i * 4 + 2) = omega arith in
+    let e3 : 1 + i * 4 + 3 ≡ suc (i * 4 + 3) = omega arith in
+    let e0 : 1 + i * 4 ≡ suc (i * 4) = omega arith in
+    rw (e1, e2, e3, e0) (numbers-at w i (omega arith))
 
 pub bytes-length : (width n : ℕ) → length (bytes-of width n) ≡ width
 unfolding bytes-of
@@ -65,7 +63,7 @@ row-push width (m ∷ ns) n = ap (λ x. bytes-of width m ++ x) (row-push width n
 
 -- a number that fits a field is read from it
 pub number-back : (width n : ℕ) → n < 256 ^ width → number-of (bytes-of width n) ≡ n
-unfolding number-of bytes-of
+unfolding bytes-of
 number-back zero n h = omega arith
 number-back (suc width) n h =
     let p : 256 ^ suc width ≡ 256 ^ width * 256 = pow-suc 256 width in
@@ -74,7 +72,7 @@ number-back (suc width) n h =
 
 -- and bytes are those of their number
 pub bytes-back : (bs : List ℕ) → Bytes bs → bytes-of (length bs) (number-of bs) ≡ bs
-unfolding number-of bytes-of Bytes
+unfolding bytes-of Bytes
 bytes-back [] b = refl
 bytes-back (x ∷ bs) b =
     let p : x < 256 = b .0 in

@@ -1,8 +1,7 @@
 -- Numbers as bytes, low byte first, in fields of any width. Definitions only.
-use mathlib.Core.Path.{_≡_}
 use mathlib.Core.List.{List, [], _∷_, _++_}
 use Prim.Native.Nat.{ℕ, zero, suc, _+_, _*_, _/_, _%_, _<_}
-use lib.ListN.{length, take, drop}
+use lib.ListN.{length, getD, take, drop}
 
 -- a number in a field of so many bytes
 unfoldable pub bytes-of : ℕ → ℕ → List ℕ
@@ -10,7 +9,7 @@ bytes-of zero n = []
 bytes-of (suc width) n = n % 256 ∷ bytes-of width (n / 256)
 
 -- the number that is in a field
-unfoldable pub number-of : List ℕ → ℕ
+abbrev pub number-of : List ℕ → ℕ
 number-of [] = 0
 number-of (b ∷ bs) = b + 256 * number-of bs
 
@@ -18,6 +17,10 @@ number-of (b ∷ bs) = b + 256 * number-of bs
 unfoldable pub row-of : ℕ → List ℕ → List ℕ
 row-of width [] = []
 row-of width (n ∷ ns) = bytes-of width n ++ row-of width ns
+
+-- the four bytes from a place on
+abbrev pub four-at : List ℕ → ℕ → List ℕ
+four-at bs at = getD bs at 0 ∷ (getD bs (at + 1) 0 ∷ (getD bs (at + 2) 0 ∷ (getD bs (at + 3) 0 ∷ [])))
 
 -- the numbers of a row of fields of four bytes; what is left over behind the last whole one is none
 unfoldable pub numbers-in : List ℕ → List ℕ

@@ -53,6 +53,11 @@ abbrev pub told : Result Decoded ℕ → Call
 told (Ok d) = call-of (d .call) (numbers-in (now (d .list)))
 told (Err n) = garbled n
 
+-- the part of the bytes that the decoder hands on is all that stands behind the numbers and the count: the list, or nothing where the call has none
+abbrev pub List-part : List ℕ → Result Decoded ℕ → Type 0
+List-part bs (Ok d) = now (d .list) ≡ drop (list-at (getD bs 0 0)) bs
+List-part bs (Err n) = Unit {0}
+
 -- number i of a part that is a list, or none beyond the last
 abbrev pub Number-at : List ℕ → ℕ → Option ℕ → Type 0
 Number-at part i (Some n) = (i < length (numbers-in part)) × (n ≡ getD (numbers-in part) i 0)

@@ -3,14 +3,17 @@
 ghost use mathlib.Core.Path.{_≡_};
 ghost use mathlib.Core.List.{_∷_};
 ghost use Prim.Native.Nat.{ℕ, _+_, _*_, _≤_, _<_};
-ghost use lib.ListN.{length, getD, take, drop};
+ghost use lib.ListN.{length, getD, drop};
 ghost use Rattle.protocol.specs.Forms.{call-of, field-count};
-ghost use Rattle.wire.specs.Bytes.{number-of, numbers-in, over, row-of};
+ghost use Rattle.wire.specs.Bytes.{four-at, number-of, numbers-in, over, row-of};
 ghost use Rattle.wire.specs.Theorems.{Bytes-come-back, Calls-come-back, Calls-fit, Most-bytes, None-alike};
-ghost use Rattle.wire.specs.Rows.{Call-written, Number-at, decoded, extent, list-at, told};
+ghost use Rattle.wire.specs.Rows.{Call-written, List-part, Number-at, decoded, extent, list-at, told};
 use protocol::Call;
 use protocol::field_count;
 use protocol::takes_list;
+
+// The longest list of a call: its count is one byte.
+pub const LONGEST_LIST: usize = 255;
 
 // A call as it was read: the list that stands beside it is the part of the caller's bytes in which
 // its numbers are.
@@ -23,7 +26,7 @@ pub struct Decoded<'a> {
 // The number in the four bytes from a place on.
 fn number_at(bytes: &[u8], at: usize) -> u32
     requires { ⌜ at + 4 ≤ length (now bytes) ⌝ }
-    ensures { λ r. ⌜ r ≡ number-of (take 4 (drop at (now (bytes .entry)))) ⌝ }
+    ensures { λ r. ⌜ r ≡ number-of (four-at (now (bytes .entry)) at) ⌝ }
 {
     u32::from_le_bytes([bytes[at], bytes[at + 1], bytes[at + 2], bytes[at + 3]])
 }
@@ -85,9 +88,11 @@ fn read_fields(bytes: &[u8], count: usize) -> [u32; 5]
     fields
 }
 
-// The call that a row of bytes is, or the place of the first byte that doesn't fit.
+// The call that a row of bytes is, with its list as a part of them, or the place of the first byte
+// that doesn't fit.
 pub fn decode(bytes: &[u8]) -> Result<Decoded<'_>, usize>
-    ensures { λ r. ⌜ told r ≡ decoded (now (bytes .entry)) ⌝ }
+    ensures means { λ r. ⌜ told r ≡ decoded (now (bytes .entry)) ⌝ }
+    ensures part { λ r. ⌜ List-part (now (bytes .entry)) r ⌝ }
 {
     if bytes.len() == 0 {
         return Err(0);
@@ -156,7 +161,7 @@ pub fn encode_call(call: Call, list: &[u32], out: &mut [u8]) -> Option<usize>
         put_head(out, number, &fields[0..count]);
         return Some(end);
     }
-    if list.len() > 255 {
+    if list.len() > LONGEST_LIST {
         return None;
     }
     let length = end + 1 + 4 * list.len();

@@ -1,29 +1,35 @@
 -- Each way out of the decoder is one case of what a row of bytes is.
 use mathlib.Core.Path.{_≡_, refl, sym, ap, _∙_}
-use Prim.Native.Nat.{ℕ, _+_, _*_, _-_, _<_, _≤_}
+use mathlib.Core.List.{List}
+use Prim.Native.Nat.{ℕ, _-_, _≤_}
 use native.Mathlib.Omega.{arith}
 use lib.ListN.{length, getD, take, drop}
 use Rattle.std.proofs.shelf.Lists.{take-rest, getD-take}
-use Rattle.protocol.specs.Forms.{field-count, made}
+use Rattle.protocol.specs.Forms.{call-of, field-count, made}
 use Rattle.wire.specs.Bytes.{numbers-in}
-use Rattle.wire.specs.Rows.{decoded, extent, list-at}
+use Rattle.wire.specs.Rows.{decoded, list-at}
 use Rattle.wire.proofs.Decoding.{decoded-empty, decoded-unknown, decoded-short, decoded-long, decoded-whole, made-same, few-fields, list-within}
 use Rattle.wire.proofs.decode.Needs as need
 
 pub returns-then-bytes-eq0 : need.returns-then-bytes-eq0
-returns-then-bytes-eq0 c = decoded-empty (c .args .bytes .now) (c .if-bytes-eq0 .taken)
+returns-then-bytes-eq0 c = record { means = decoded-empty (c .args .bytes .now) _ (c .if-bytes-eq0 .taken) (omega arith); part = tt }
 
 pub returns-in-rest : need.returns-in-rest
-returns-in-rest c = decoded-unknown (c .args .bytes .now) _ (omega arith) refl (c .in-rest .ensures tt)
+returns-in-rest c = record { means = decoded-unknown (c .args .bytes .now) (getD (c .args .bytes .now) 0 0) _ (omega arith) refl (c .in-rest .ensures tt) (omega arith); part = tt }
 
 pub returns-then-bytes-length : need.returns-then-bytes-length
 returns-then-bytes-length c =
-    decoded-short (c .args .bytes .now) _ (omega arith) refl (c .in-Some .ensures tt .0) (omega (arith, c .whole-length-length .ensures))
+    record {
+      means = decoded-short (c .args .bytes .now) (getD (c .args .bytes .now) 0 0) _ (omega arith) refl (c .in-Some .ensures tt .0) (omega (arith, c .whole-length-length .ensures)) (omega arith);
+      part = tt;
+    }
 
 pub returns-then-bytes-length-2 : need.returns-then-bytes-length-2
 returns-then-bytes-length-2 c =
-    ap (λ n. Rattle.meaning.specs.Calls.garbled n) (c .whole-length-length .ensures)
-    ∙ decoded-long (c .args .bytes .now) _ (omega arith) refl (c .in-Some .ensures tt .0) (omega (arith, c .whole-length-length .ensures))
+    record {
+      means = decoded-long (c .args .bytes .now) (getD (c .args .bytes .now) 0 0) _ (omega arith) refl (c .in-Some .ensures tt .0) (omega (arith, c .whole-length-length .ensures)) (omega (arith, c .whole-length-length .ensures));
+      part = tt;
+    }
 
 pub read-fields-requires : need.read-fields-requires
 read-fields-requires c κs =
@@ -44,11 +50,13 @@ returns c =
     let k : ℕ = getD (c .args .bytes .now) 0 0 in
     let le : k ≤ 10 = c .in-Some .ensures tt .0 in
     let e : c .in-Some .fields ≡ field-count k = c .in-Some .ensures tt .1 in
-    let list = numbers-in (drop (list-at k) (c .args .bytes .now)) in
-    let part : take (length (c .args .bytes .now) - c .list-place .result) (drop (c .list-place .result) (c .args .bytes .now)) ≡ drop (list-at k) (c .args .bytes .now) =
-    take-rest (c .args .bytes .now) (c .list-place .result) ∙ ap (λ n. drop n (c .args .bytes .now)) (c .list-place .ensures) in
-    ap (λ w. Rattle.protocol.specs.Forms.call-of (c .in-Some-new .call) (numbers-in w)) part
-    ∙ (c .in-Some-new .ensures tt .1 list
-    ∙ (made-same k le (c .read-fields .result) (take (field-count k) (numbers-in (drop 1 (c .args .bytes .now)))) list
-    (λ i h. c .read-fields .ensures i (omega arith) ∙ sym (getD-take (field-count k) (numbers-in (drop 1 (c .args .bytes .now))) i 0 h))
-    ∙ decoded-whole (c .args .bytes .now) k (omega arith) refl le (omega (arith, c .whole-length-length .ensures))))
+    let place : c .list-place .result ≡ list-at k = c .list-place .ensures in
+    let bytes : List ℕ = drop (list-at k) (c .args .bytes .now) in
+    let rest = take-rest (c .args .bytes .now) (c .list-place .result) in
+    let part : take (length (c .args .bytes .now) - c .list-place .result) (drop (c .list-place .result) (c .args .bytes .now)) ≡ bytes = cc in
+    let fields : List ℕ = take (field-count k) (numbers-in (drop 1 (c .args .bytes .now))) in
+    let same : made k (c .read-fields .result) (numbers-in bytes) ≡ made k fields (numbers-in bytes) =
+    made-same k le (c .read-fields .result) fields (numbers-in bytes) (λ i h. c .read-fields .ensures i (omega arith) ∙ sym (getD-take (field-count k) (numbers-in (drop 1 (c .args .bytes .now))) i 0 h)) in
+    let whole : made k fields (numbers-in bytes) ≡ decoded (c .args .bytes .now) = decoded-whole (c .args .bytes .now) k (omega arith) refl le (omega (arith, c .whole-length-length .ensures)) in
+    let call : call-of (c .in-Some-new .call) (numbers-in bytes) ≡ made k (c .read-fields .result) (numbers-in bytes) = c .in-Some-new .ensures tt .1 (numbers-in bytes) in
+    record { means = ap (λ w. call-of (c .in-Some-new .call) (numbers-in w)) part ∙ (call ∙ (same ∙ whole)); part = part }

@@ -1,14 +1,12 @@
 -- A call with a list and one without, each too long or written.
 use mathlib.Core.Logic.{inl, inr}
 use mathlib.Core.Path.{_≡_, refl, sym, ap, _∙_}
-use mathlib.Core.List.{List, _++_, _∷_}
-use Prim.Native.Nat.{ℕ, _+_, _*_, _-_, _≤_, _<_}
+use mathlib.Core.List.{List, _∷_}
+use Prim.Native.Nat.{ℕ, _+_, _*_, _-_}
 use native.Mathlib.Omega.{arith}
 use lib.ListN.{length, take}
-use Rattle.protocol.specs.Forms.{call-of, field-count, listing}
 use Rattle.wire.specs.Bytes.{row-of, over}
-use Rattle.wire.specs.Rows.{encoded, in-front}
-use Rattle.wire.proofs.Encoding.{Plain, Listed, plain, listed}
+use Rattle.wire.proofs.Encoding.{plain, listed}
 use Rattle.wire.proofs.Written.{over-more, over-front}
 use Rattle.wire.proofs.encode_call.Needs as need
 
@@ -30,8 +28,8 @@ returns-then-not-takes-list c =
       c .put-head .ensures ∙ (ap (λ x. over 0 x (c .args .out .now)) (head-row (c .parts-number .result .0) (c .in-Some .count) (c .parts-number .result .1) ∙ sym (p .row)) ∙ over-front _ _),
     )
 
-pub returns-then-list-gt255 : need.returns-then-list-gt255
-returns-then-list-gt255 c =
+pub returns-then-list-gt-LONGEST-LIST : need.returns-then-list-gt-LONGEST-LIST
+returns-then-list-gt-LONGEST-LIST c =
     let p = listed (c .args .call) _ _ _ (c .args .list .now) (c .parts-number .ensures) (c .in-Some .ensures tt .1) (c .if-not-takes-list .ensures tt) in
     (inl (omega (arith, ap length (p .listed))), refl)
 

@@ -1,4 +1,3 @@
-use mathlib.Core.Path.{_≡_, sym, _∙_}
 use native.Mathlib.Omega.{arith}
 use Rattle.wire.proofs.Fields.{numbers-length, numbers-at}
 use Rattle.wire.proofs.leg_at.Needs as need
@@ -11,4 +10,5 @@ number-at-requires c κs = omega (arith, numbers-length (c .args .part .now), c 
 
 pub returns : need.returns
 returns c =
-    (omega (arith, c .leg-count .ensures), c .number-at .ensures ∙ sym (numbers-at (c .args .part .now) (c .args .i) (omega (arith, numbers-length (c .args .part .now), c .leg-count .ensures))))
+    let n = numbers-at (c .args .part .now) (c .args .i) (omega (arith, numbers-length (c .args .part .now), c .leg-count .ensures)) in
+    (omega (arith, c .leg-count .ensures), omega (arith, n, c .number-at .ensures))

@@ -1,6 +1,6 @@
-use mathlib.Core.Path.{sym}
+use native.Mathlib.Omega.{arith}
 use Rattle.wire.proofs.Fields.{numbers-length}
 use Rattle.wire.proofs.leg_count.Needs as need
 
 pub returns : need.returns
-returns c = sym (numbers-length _)
+returns c = omega (arith, numbers-length (c .args .part .now))

@@ -1,4 +1,4 @@
-use mathlib.Core.Path.{_≡_, sym, _∙_}
+use mathlib.Core.Path.{_≡_}
 use Prim.Native.Nat.{_+_, _*_}
 use native.Mathlib.Omega.{arith}
 use lib.ListN.{getD}
@@ -7,10 +7,10 @@ use Rattle.wire.proofs.Decoding.{extent-listed, extent-plain}
 use Rattle.wire.proofs.whole_length.Needs as need
 
 pub returns-then-not-takes-list : need.returns-then-not-takes-list
-returns-then-not-takes-list c = sym (extent-plain _ (c .args .fields) _ (c .pre .1) (c .if-not-takes-list .ensures tt))
+returns-then-not-takes-list c = omega (arith, extent-plain (c .args .number) (c .args .fields) (c .args .bytes .now) (c .pre .1) (c .if-not-takes-list .ensures tt))
 
 pub returns-then-end-bytes : need.returns-then-end-bytes
-returns-then-end-bytes c = sym (extent-listed _ (c .args .fields) (c .args .bytes .now) (c .pre .1) (c .if-not-takes-list .ensures tt))
+returns-then-end-bytes c = omega (arith, extent-listed (c .args .number) (c .args .fields) (c .args .bytes .now) (c .pre .1) (c .if-not-takes-list .ensures tt))
 
 pub returns-else-end-bytes : need.returns-else-end-bytes
 returns-else-end-bytes c =
