@@ -1,12 +1,14 @@
 -- Rows written over: one behind the other is both at once.
 use mathlib.Core.Path.{_≡_, sym, ap, _∙_}
 use mathlib.Core.List.{List, [], _∷_, _++_, append-assoc}
-use Prim.Native.Nat.{ℕ, suc, _+_, _/_, _%_, _≤_, _<_}
+use Prim.Native.Nat.{ℕ, suc, _+_, _*_, _/_, _%_, _≤_, _<_}
 use borrow.Rule.Slice.PartMut.{putMid}
+use native.Mathlib.Nat.{mul-le-mul-left}
 use native.Mathlib.Omega.{arith}
-use lib.ListN.{length, set, take, drop, length-append, length-take, length-drop}
-use Rattle.std.proofs.shelf.Lists.{drop-drop, take-append-drop, length-take-le, take-at, drop-at, set-split}
-use Rattle.wire.specs.Bytes.{bytes-of, over}
+use lib.ListN.{length, getD, set, take, drop, length-append, length-take, length-drop}
+use Rattle.std.proofs.shelf.Lists.{drop-drop, take-append-drop, length-take-le, take-at, drop-at, set-split, take-more}
+use Rattle.wire.specs.Bytes.{bytes-of, row-of, over}
+use Rattle.wire.proofs.Fields.{bytes-length, row-length, row-push}
 
 -- nothing written
 pub over-none : (at : ℕ) (old : List ℕ) → over at [] old ≡ old
@@ -55,3 +57,19 @@ four-bytes n =
 pub over-front : (new old : List ℕ) → over 0 new old ≡ new ++ drop (length new) old
 unfolding over
 over-front new old = ap (λ n. new ++ drop n old) (native.Mathlib.Nat.zero-add (length new))
+
+-- one more number of a row, whatever its width: the step of every loop that writes one
+pub row-more : (width at k i : ℕ) (ns old out new : List ℕ) → i < length ns → at + width * length ns ≤ length old → k ≡ width → new ≡ bytes-of width (getD ns i 0) →
+    out ≡ over at (row-of width (take i ns)) old → putMid (at + width * i) k out new ≡ over at (row-of width (take (i + 1) ns)) old
+row-more width at k i ns old out new lt fits w b o =
+    let n : ℕ = getD ns i 0 in
+    let place : ℕ = at + width * i in
+    let row : List ℕ = row-of width (take i ns) in
+    let t : length (take i ns) ≡ i = length-take-le i ns (omega arith) in
+    let long : length row ≡ width * i = row-length width (take i ns) ∙ ap (λ m. width * m) t in
+    let below : width * i ≤ width * length ns = mul-le-mul-left width (omega arith) in
+    over-part place k out new (ap length b ∙ (bytes-length width n ∙ sym w))
+    ∙ (ap (λ x. over place x out) b
+    ∙ (ap (λ x. over place (bytes-of width n) x) o
+    ∙ (over-more at place row (bytes-of width n) old (omega arith) (omega arith)
+    ∙ ap (λ x. over at x old) (sym (row-push width (take i ns) n) ∙ ap (row-of width) (sym (take-more ns i 0 lt))))))

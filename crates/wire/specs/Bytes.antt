@@ -38,3 +38,7 @@ Bytes (b ∷ bs) = (b < 256) × Bytes bs
 -- a row with another written over it from a place on; what stands before and behind stays
 unfoldable pub over : ℕ → List ℕ → List ℕ → List ℕ
 over at new old = take at old ++ (new ++ drop (at + length new) old)
+
+-- bytes written at the front of others; what stands behind them stays
+abbrev pub in-front : List ℕ → List ℕ → List ℕ
+in-front new old = new ++ drop (length new) old

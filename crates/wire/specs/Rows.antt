@@ -1,4 +1,4 @@
--- Which bytes a call and an answer have, and which call a row of bytes is. Definitions only.
+-- Which bytes a call has, and which call a row of bytes is. Definitions only.
 use mathlib.Core.Path.{_≡_}
 use mathlib.Core.Logic.{_⊎_}
 use mathlib.Core.List.{List, [], _∷_, _++_}
@@ -7,9 +7,9 @@ use denote.Ref.{now}
 use lib.Dec.{ltb}
 use lib.ListN.{length, getD, take, drop}
 use Rattle.meaning.specs.Lines.{pick}
-use Rattle.meaning.specs.Calls.{Call, Answer, garbled, call-number, refused, number, two, stands-so, sold}
+use Rattle.meaning.specs.Calls.{Call, garbled, call-number}
 use Rattle.protocol.specs.Forms.{call-of, fields, listing, field-count, has-list, made}
-use Rattle.wire.specs.Bytes.{row-of, numbers-in}
+use Rattle.wire.specs.Bytes.{row-of, numbers-in, in-front}
 use Rattle.wire.specs.declared.Decoded.{Decoded}
 use Rattle.std.specs.declared.option.Option.{Option}
 use Rattle.std.specs.declared.option.Option.the-variants.{Some, None}
@@ -63,32 +63,7 @@ abbrev pub Number-at : List ℕ → ℕ → Option ℕ → Type 0
 Number-at part i (Some n) = (i < length (numbers-in part)) × (n ≡ getD (numbers-in part) i 0)
 Number-at part i None = length (numbers-in part) ≤ i
 
--- bytes written at the front of others; what stands behind them stays
-abbrev pub in-front : List ℕ → List ℕ → List ℕ
-in-front new old = new ++ drop (length new) old
-
 -- a call written at the front of a row: its length and the row then; none where its list is longer than a byte can count or the row is too short, and then nothing is written
 abbrev pub Call-written : Call → List ℕ → List ℕ → Option ℕ → Type 0
 Call-written c old new (Some n) = (length (listing c) ≤ 255) × (length (encoded c) ≤ length old) × (n ≡ length (encoded c)) × (new ≡ in-front (encoded c) old)
 Call-written c old new None = ((255 < length (listing c)) ⊎ (length old < length (encoded c))) × (new ≡ old)
-
--- THE BYTES OF AN ANSWER: its number in a byte, and its values in eight bytes each; what is sold comes behind its count in a byte
-abbrev pub answer-bytes : Answer → List ℕ
-answer-bytes (refused n p) = 0 ∷ row-of 8 (n ∷ (p ∷ []))
-answer-bytes (number n) = 1 ∷ row-of 8 (n ∷ [])
-answer-bytes (two k s) = 2 ∷ row-of 8 (k ∷ (s ∷ []))
-answer-bytes (stands-so s u p) = 3 ∷ row-of 8 (s ∷ (u ∷ (p ∷ [])))
-answer-bytes (sold ns) = 4 ∷ (length ns ∷ row-of 8 ns)
-
--- how long an answer's list is
-abbrev pub answer-list : Answer → ℕ
-answer-list (refused n p) = 0
-answer-list (number n) = 0
-answer-list (two k s) = 0
-answer-list (stands-so s u p) = 0
-answer-list (sold ns) = length ns
-
--- an answer written at the front of a row: its length and the row then; none where more than 26 are sold, one for each class, and then nothing is written
-abbrev pub Answer-written : Answer → List ℕ → List ℕ → Option ℕ → Type 0
-Answer-written a old new (Some n) = (answer-list a ≤ 26) × (n ≡ length (answer-bytes a)) × (new ≡ in-front (answer-bytes a) old)
-Answer-written a old new None = (26 < answer-list a) × (new ≡ old)

@@ -1,5 +1,5 @@
-// Calls and answers as bytes. specs/Rows.antt says which bytes a call and an answer have, and which
-// call a row of bytes is or at which place it ceases to be one; specs/Theorems.antt what follows.
+// Calls as bytes. specs/Rows.antt says which bytes a call has, and which call a row of bytes is or
+// at which place it ceases to be one; specs/Theorems.antt what follows from that.
 ghost use mathlib.Core.Path.{_≡_};
 ghost use mathlib.Core.List.{_∷_};
 ghost use Prim.Native.Nat.{ℕ, _+_, _*_, _≤_, _<_};
