@@ -40,10 +40,9 @@ over-more at here a b old h e =
     ∙ (append-assoc (take at old) a (b ++ drop (here + length b) (over at a old))
     ∙ ap (λ x. take at old ++ x) (sym (append-assoc a b (drop (here + length b) (over at a old))) ∙ ap (λ x. (a ++ b) ++ x) g))
 
--- a row written over keeps the length
-pub over-length : (at : ℕ) (new old : List ℕ) → at + length new ≤ length old → length (over at new old) ≡ length old
-unfolding over
-over-length at new old h = simp (length-append, length-take, length-drop) (omega arith)
+-- the same of what was written in two steps
+pub then-more : (at here : ℕ) (a b old mid new : List ℕ) → at + length a ≤ length old → mid ≡ over at a old → new ≡ over here b mid → here ≡ at + length a → new ≡ over at (a ++ b) old
+then-more at here a b old mid new h m n e = n ∙ (ap (λ x. over here b x) m ∙ over-more at here a b old h e)
 
 -- the four bytes of a number, as the code has them
 pub four-bytes : (n : ℕ) → (n % 256) ∷ ((n / 256 % 256) ∷ ((n / 65536 % 256) ∷ ((n / 16777216 % 256) ∷ []))) ≡ bytes-of 4 n
@@ -59,17 +58,12 @@ unfolding over
 over-front new old = ap (λ n. new ++ drop n old) (native.Mathlib.Nat.zero-add (length new))
 
 -- one more number of a row, whatever its width: the step of every loop that writes one
-pub row-more : (width at k i : ℕ) (ns old out new : List ℕ) → i < length ns → at + width * length ns ≤ length old → k ≡ width → new ≡ bytes-of width (getD ns i 0) →
-    out ≡ over at (row-of width (take i ns)) old → putMid (at + width * i) k out new ≡ over at (row-of width (take (i + 1) ns)) old
-row-more width at k i ns old out new lt fits w b o =
+pub row-more : (width at place k i : ℕ) (ns old out new : List ℕ) → i < length ns → at + width * length ns ≤ length old → new ≡ bytes-of width (getD ns i 0) → out ≡ over at (row-of width (take i ns)) old →
+    k ≡ width → place ≡ at + width * i → putMid place k out new ≡ over at (row-of width (take (i + 1) ns)) old
+row-more width at place k i ns old out new lt fits b o w p =
     let n : ℕ = getD ns i 0 in
-    let place : ℕ = at + width * i in
-    let row : List ℕ = row-of width (take i ns) in
     let t : length (take i ns) ≡ i = length-take-le i ns (omega arith) in
-    let long : length row ≡ width * i = row-length width (take i ns) ∙ ap (λ m. width * m) t in
+    let long : length (row-of width (take i ns)) ≡ width * i = row-length width (take i ns) ∙ ap (λ m. width * m) t in
     let below : width * i ≤ width * length ns = mul-le-mul-left width (omega arith) in
-    over-part place k out new (ap length b ∙ (bytes-length width n ∙ sym w))
-    ∙ (ap (λ x. over place x out) b
-    ∙ (ap (λ x. over place (bytes-of width n) x) o
-    ∙ (over-more at place row (bytes-of width n) old (omega arith) (omega arith)
-    ∙ ap (λ x. over at x old) (sym (row-push width (take i ns) n) ∙ ap (row-of width) (sym (take-more ns i 0 lt))))))
+    then-more at place (row-of width (take i ns)) (bytes-of width n) old out _ (omega arith) o (over-part place k out new (ap length b ∙ (bytes-length width n ∙ sym w)) ∙ ap (λ x. over place x out) b) (omega arith)
+    ∙ ap (λ x. over at x old) (sym (row-push width (take i ns) n) ∙ ap (row-of width) (sym (take-more ns i 0 lt)))

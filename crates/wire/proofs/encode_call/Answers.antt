@@ -7,7 +7,7 @@ use native.Mathlib.Omega.{arith}
 use lib.ListN.{length, take}
 use Rattle.wire.specs.Bytes.{row-of, over}
 use Rattle.wire.proofs.Encoding.{plain, listed}
-use Rattle.wire.proofs.Written.{over-more, over-front}
+use Rattle.wire.proofs.Written.{then-more, over-front}
 use Rattle.wire.proofs.encode_call.Needs as need
 
 -- the head as it is written
@@ -44,8 +44,10 @@ returns c =
       omega (arith, ap length (p .listed)),
       omega (arith, p .long),
       sym (p .long),
-      c .put-list .ensures
-          ∙ (ap (λ x. over (1 + 4 * c .in-Some .count) (length (c .args .list .now) ∷ row-of 4 (c .args .list .now)) x) (c .put-head-2 .ensures ∙ ap (λ x. over 0 x (c .args .out .now)) (head-row (c .parts-number .result .0) (c .in-Some .count) (c .parts-number .result .1)))
-          ∙ (over-more 0 (1 + 4 * c .in-Some .count) (c .parts-number .result .0 ∷ row-of 4 (take (c .in-Some .count) (c .parts-number .result .1))) (length (c .args .list .now) ∷ row-of 4 (c .args .list .now)) (c .args .out .now) (omega (arith, p .head)) (omega (arith, p .head))
-          ∙ (ap (λ x. over 0 x (c .args .out .now)) (sym (p .row)) ∙ over-front _ _))),
+      then-more 0 _ (c .parts-number .result .0 ∷ row-of 4 (take (c .in-Some .count) (c .parts-number .result .1))) (length (c .args .list .now) ∷ row-of 4 (c .args .list .now)) (c .args .out .now) _ _
+          (omega (arith, p .head))
+          (c .put-head-2 .ensures ∙ ap (λ x. over 0 x (c .args .out .now)) (head-row (c .parts-number .result .0) (c .in-Some .count) (c .parts-number .result .1)))
+          (c .put-list .ensures)
+          (omega (arith, p .head))
+          ∙ (ap (λ x. over 0 x (c .args .out .now)) (sym (p .row)) ∙ over-front _ _),
     )

@@ -14,7 +14,7 @@ loop-i-holds c = sym (over-none (c .args .at) (c .args .out .now))
 pub loop-i-again : need.loop-i-again
 loop-i-again c =
     let new : c .copy-from-slice .last .self ≡ bytes-of 4 (getD (c .args .numbers .now) (c .loop-i .i) 0) = c .copy-from-slice .ensures .after ∙ (c .to-le-bytes .ensures ∙ four-bytes _) in
-    row-more 4 (c .args .at) _ (c .loop-i .i) (c .args .numbers .now) (c .args .out .now) (c .loop-i .out) (c .copy-from-slice .last .self) (c .loop-i-test .taken) (c .pre) (omega arith) new (c .loop-i .inv)
+    row-more 4 (c .args .at) _ _ (c .loop-i .i) (c .args .numbers .now) (c .args .out .now) (c .loop-i .out) (c .copy-from-slice .last .self) (c .loop-i-test .taken) (c .pre) new (c .loop-i .inv) (omega arith) (omega arith)
 
 pub returns : need.returns
 returns c = c .loop-i .inv ∙ ap (λ x. over (c .args .at) (row-of 4 x) (c .args .out .now)) (take-all (c .loop-i .i) (c .args .numbers .now) (c .loop-i-test .left))

@@ -15,7 +15,7 @@ loop-i-holds c = sym (over-none (c .args .at) (c .args .out .now))
 pub loop-i-again : need.loop-i-again
 loop-i-again c =
     let new : c .copy-from-slice .last .self ≡ bytes-of 8 (getD (c .args .values .now) (c .loop-i .i) 0) = c .copy-from-slice .ensures .after ∙ (c .to-le-bytes .ensures ∙ eight-bytes _) in
-    row-more 8 (c .args .at) _ (c .loop-i .i) (c .args .values .now) (c .args .out .now) (c .loop-i .out) (c .copy-from-slice .last .self) (c .loop-i-test .taken) (c .pre) (omega arith) new (c .loop-i .inv)
+    row-more 8 (c .args .at) _ _ (c .loop-i .i) (c .args .values .now) (c .args .out .now) (c .loop-i .out) (c .copy-from-slice .last .self) (c .loop-i-test .taken) (c .pre) new (c .loop-i .inv) (omega arith) (omega arith)
 
 pub returns : need.returns
 returns c = c .loop-i .inv ∙ ap (λ x. over (c .args .at) (row-of 8 x) (c .args .out .now)) (take-all (c .loop-i .i) (c .args .values .now) (c .loop-i-test .left))
