@@ -15,8 +15,8 @@ use Rattle.meaning.specs.Promise.{field, all-fields, short, readable}
 use Rattle.protocol.specs.Forms.{fields, listing, field-count, has-list, made}
 use Rattle.protocol.proofs.Wholes.{nothing-lost}
 use Rattle.wire.specs.Bytes.{bytes-of, number-of, row-of, numbers-in, Bytes}
-use Rattle.wire.specs.Rows.{in-bytes, encoded, list-at, extent, decoded}
-use Rattle.wire.specs.Theorems.{Can-be-written, Calls-come-back, Bytes-come-back, Calls-fit, None-alike, Calls-within, Most-bytes}
+use Rattle.wire.specs.Rows.{Can-be-written, in-bytes, encoded, list-at, extent, decoded}
+use Rattle.wire.specs.Theorems.{Calls-come-back, Bytes-come-back, Calls-fit, None-alike, Calls-within, Most-bytes}
 use Rattle.wire.proofs.Fields.{numbers-length, row-length, number-back, bytes-back}
 use Rattle.wire.proofs.Decoding.{each-call, few-fields, list-at-listed, list-at-plain, extent-listed, extent-plain, decoded-empty, decoded-unknown, decoded-short, decoded-long, decoded-whole}
 use Rattle.wire.proofs.Encoding.{in-bytes-listed, in-bytes-plain}
@@ -127,6 +127,12 @@ row-all : (w : List ℕ) (n : ℕ) → Bytes w → length w ≡ 4 * n → row-of
 row-all w n b e =
     let l : length (numbers-in w) ≡ n = numbers-length w ∙ omega arith in
     ap (row-of 4) (sym (take-all n (numbers-in w) (omega arith))) ∙ (row-take n w b (omega arith) ∙ take-all (4 * n) w (omega arith))
+
+-- what is a byte at every place is bytes
+pub bytes-from : (w : List ℕ) → ((i : ℕ) → getD w i 0 < 256) → Bytes w
+unfolding Bytes
+bytes-from [] h = tt
+bytes-from (x ∷ w) h = (h 0, bytes-from w (λ i. h (suc i)))
 
 -- parts of bytes are bytes
 bytes-drop : (n : ℕ) (w : List ℕ) → Bytes w → Bytes (drop n w)

@@ -1,5 +1,6 @@
 -- Which bytes a call has, and which call a row of bytes is. Definitions only.
 use mathlib.Core.Path.{_≡_}
+use mathlib.Core.Bool.{true}
 use mathlib.Core.Logic.{_⊎_}
 use mathlib.Core.List.{List, [], _∷_, _++_}
 use Prim.Native.Nat.{ℕ, _+_, _*_, _≤_, _<_}
@@ -8,6 +9,7 @@ use lib.Dec.{ltb}
 use lib.ListN.{length, getD, take, drop}
 use Rattle.meaning.specs.Lines.{pick}
 use Rattle.meaning.specs.Calls.{Call, garbled, call-number}
+use Rattle.meaning.specs.Promise.{readable}
 use Rattle.protocol.specs.Forms.{call-of, fields, listing, field-count, has-list, made}
 use Rattle.wire.specs.Bytes.{row-of, numbers-in, in-front}
 use Rattle.wire.specs.declared.Decoded.{Decoded}
@@ -48,15 +50,25 @@ read-as k bs =
 abbrev pub decoded : List ℕ → Call
 decoded bs = read-as (getD bs 0 255) bs
 
+-- a call that can be written in its fields; what can't be read is none
+pub record Can-be-written (c : Call) : Type 0 where
+  pub fits : readable c ≡ true
+  pub is-call : call-number c ≤ 10
+
 -- what the decoder tells: a call with the part of the bytes that is its list, or the place
-abbrev pub told : Result Decoded ℕ → Call
-told (Ok d) = call-of (d .call) (numbers-in (now (d .list)))
-told (Err n) = garbled n
+abbrev pub call-told : Result Decoded ℕ → Call
+call-told (Ok d) = call-of (d .call) (numbers-in (now (d .list)))
+call-told (Err n) = garbled n
 
 -- the part of the bytes that the decoder hands on is all that stands behind the numbers and the count: the list, or nothing where the call has none
 abbrev pub List-part : List ℕ → Result Decoded ℕ → Type 0
 List-part bs (Ok d) = now (d .list) ≡ drop (list-at (getD bs 0 0)) bs
 List-part bs (Err n) = Unit {0}
+
+-- a call that was read can be written in its fields, and a place is within the row or right behind it
+abbrev pub Readable : List ℕ → Result Decoded ℕ → Type 0
+Readable bs (Ok d) = Can-be-written (call-told (Ok d))
+Readable bs (Err n) = n ≤ length bs
 
 -- number i of a part that is a list, or none beyond the last
 abbrev pub Number-at : List ℕ → ℕ → Option ℕ → Type 0

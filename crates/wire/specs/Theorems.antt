@@ -1,18 +1,11 @@
 -- What is promised of the bytes of calls and answers. Statements only; each is the contract of a function.
 use mathlib.Core.Path.{_≡_}
-use mathlib.Core.Bool.{true}
 use mathlib.Core.List.{List}
 use Prim.Native.Nat.{ℕ, _≤_}
 use lib.ListN.{length}
 use Rattle.meaning.specs.Calls.{Call, call-number}
-use Rattle.meaning.specs.Promise.{readable}
 use Rattle.wire.specs.Bytes.{Bytes}
-use Rattle.wire.specs.Rows.{encoded, decoded}
-
--- a call that can be written in its fields; what can't be read is none
-pub record Can-be-written (c : Call) : Type 0 where
-  pub fits : readable c ≡ true
-  pub is-call : call-number c ≤ 10
+use Rattle.wire.specs.Rows.{Can-be-written, encoded, decoded}
 
 -- decoding what was encoded gives the call
 abbrev pub Calls-come-back : Type 0

@@ -7,7 +7,7 @@ ghost use lib.ListN.{length, getD, drop};
 ghost use Rattle.protocol.specs.Forms.{call-of, field-count};
 ghost use Rattle.wire.specs.Bytes.{four-at, number-of, numbers-in, over, row-of};
 ghost use Rattle.wire.specs.Theorems.{Bytes-come-back, Calls-come-back, Calls-fit, Most-bytes, None-alike};
-ghost use Rattle.wire.specs.Rows.{Call-written, List-part, Number-at, decoded, extent, list-at, told};
+ghost use Rattle.wire.specs.Rows.{Call-written, List-part, Number-at, Readable, call-told, decoded, extent, list-at};
 use protocol::Call;
 use protocol::field_count;
 use protocol::takes_list;
@@ -91,8 +91,9 @@ fn read_fields(bytes: &[u8], count: usize) -> [u32; 5]
 // The call that a row of bytes is, with its list as a part of them, or the place of the first byte
 // that doesn't fit.
 pub fn decode(bytes: &[u8]) -> Result<Decoded<'_>, usize>
-    ensures means { λ r. ⌜ told r ≡ decoded (now (bytes .entry)) ⌝ }
+    ensures means { λ r. ⌜ call-told r ≡ decoded (now (bytes .entry)) ⌝ }
     ensures part { λ r. ⌜ List-part (now (bytes .entry)) r ⌝ }
+    ensures fits { λ r. ⌜ Readable (now (bytes .entry)) r ⌝ }
 {
     if bytes.len() == 0 {
         return Err(0);
