@@ -206,11 +206,11 @@ pub record Whole (bs : List ℕ) (k : ℕ) : Type 0 where
   pub long : length bs ≡ extent k bs
 
 -- no call can't be read
-no-call : (c : Call) (n : ℕ) {A : Type 0} → garbled n ≡ c → call-number c ≤ 10 → A
+pub no-call : (c : Call) (n : ℕ) {A : Type 0} → garbled n ≡ c → call-number c ≤ 10 → A
 unfolding call-number
 no-call c n e h = let z : call-number c ≡ 255 = ap call-number (sym e) in absurd (omega arith)
 
-whole-row : (bs : List ℕ) → call-number (decoded bs) ≤ 10 → Whole bs (getD bs 0 0)
+pub whole-row : (bs : List ℕ) → call-number (decoded bs) ≤ 10 → Whole bs (getD bs 0 0)
 whole-row [] h = no-call (decoded []) 0 (decoded-empty [] 0 refl refl) h
 whole-row (k ∷ bs) h = ⊎-elim unknown known (cases-lt 10 k)
   where

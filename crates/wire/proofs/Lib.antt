@@ -3,3 +3,4 @@ pub mod Written
 pub mod Decoding
 pub mod Encoding
 pub mod Back
+pub mod Misfit

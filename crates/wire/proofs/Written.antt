@@ -5,7 +5,7 @@ use Prim.Native.Nat.{ℕ, suc, _+_, _*_, _/_, _%_, _≤_, _<_}
 use borrow.Rule.Slice.PartMut.{putMid}
 use native.Mathlib.Nat.{mul-le-mul-left}
 use native.Mathlib.Omega.{arith}
-use lib.ListN.{length, getD, set, take, drop, length-append, length-take, length-drop}
+use lib.ListN.{length, getD, set, take, drop, length-append}
 use Rattle.std.proofs.shelf.Lists.{drop-drop, take-append-drop, length-take-le, take-at, drop-at, set-split, take-more}
 use Rattle.wire.specs.Bytes.{bytes-of, row-of, over}
 use Rattle.wire.proofs.Fields.{bytes-length, row-length, row-push}

@@ -6,14 +6,17 @@ ghost use Prim.Native.Nat.{ℕ, _+_, _*_, _≤_, _<_};
 ghost use lib.ListN.{length, getD, drop};
 ghost use Rattle.protocol.specs.Forms.{call-of, field-count};
 ghost use Rattle.wire.specs.Bytes.{four-at, number-of, numbers-in, over, row-of};
-ghost use Rattle.wire.specs.Theorems.{Bytes-come-back, Calls-come-back, Calls-fit, Most-bytes, None-alike};
 ghost use Rattle.wire.specs.Rows.{Call-written, List-part, Number-at, Readable, call-told, decoded, extent, list-at};
+ghost use Rattle.wire.specs.Theorems.{Bytes-come-back, Calls-come-back, Calls-fit, Misfits, Most-bytes, None-alike};
 use protocol::Call;
 use protocol::field_count;
 use protocol::takes_list;
 
 // The longest list of a call: its count is one byte.
 pub const LONGEST_LIST: usize = 255;
+
+// No call that can be written in its fields has more bytes.
+pub const MAX_CALL: usize = 1038;
 
 // A call as it was read: the list that stands beside it is the part of the caller's bytes in which
 // its numbers are.
@@ -174,9 +177,6 @@ pub fn encode_call(call: Call, list: &[u32], out: &mut [u8]) -> Option<usize>
     Some(length)
 }
 
-// No call that can be written in its fields has more bytes.
-pub const MAX_CALL: usize = 1038;
-
 // That number, and the theorem that it is the most.
 pub fn most_call_bytes() -> usize
     ensures { λ r. ⌜ (r ≡ 1038) × Most-bytes r ⌝ }
@@ -194,4 +194,10 @@ pub fn calls_come_back()
 // written in its fields.
 pub fn bytes_come_back()
     ensures { λ _. ⌜ Bytes-come-back × Calls-fit ⌝ }
+{}
+
+// A row that is no call is refused at its first byte that doesn't fit: the bytes before it begin some
+// call, and with it they begin none.
+pub fn first_misfit()
+    ensures { λ _. ⌜ Misfits ⌝ }
 {}

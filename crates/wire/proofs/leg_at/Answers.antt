@@ -1,3 +1,4 @@
+-- The four bytes of number i stand at four times i.
 use native.Mathlib.Omega.{arith}
 use Rattle.wire.proofs.Fields.{numbers-length, numbers-at}
 use Rattle.wire.proofs.leg_at.Needs as need

@@ -1,3 +1,4 @@
+-- Four bytes make a number.
 use native.Mathlib.Omega.{arith}
 use Rattle.wire.proofs.Fields.{numbers-length}
 use Rattle.wire.proofs.leg_count.Needs as need

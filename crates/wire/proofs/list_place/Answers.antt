@@ -1,3 +1,4 @@
+-- Where a list begins, of a call that has one and of one that has none.
 use native.Mathlib.Omega.{arith}
 use Rattle.wire.proofs.Decoding.{list-at-listed, list-at-plain}
 use Rattle.wire.proofs.list_place.Needs as need

@@ -1,3 +1,4 @@
+-- The numbers read so far are those of the row.
 use mathlib.Core.Path.{_≡_}
 use Prim.Native.Nat.{ℕ, _<_}
 use lib.ListN.{length, getD, drop}

@@ -1,3 +1,4 @@
+-- How long a row should be, by its count if it has one.
 use mathlib.Core.Path.{_≡_}
 use Prim.Native.Nat.{_+_, _*_}
 use native.Mathlib.Omega.{arith}

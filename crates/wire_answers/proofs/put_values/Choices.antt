@@ -1,3 +1,4 @@
+-- The values written so far stand one behind the other.
 use mathlib.Core.Path.{_≡_}
 use lib.ListN.{take}
 use Rattle.wire.specs.Bytes.{row-of, over}

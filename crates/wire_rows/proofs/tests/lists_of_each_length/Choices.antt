@@ -1,3 +1,4 @@
+-- The arrays keep their lengths.
 use mathlib.Core.Path.{_≡_}
 use lib.ListN.{length}
 use Rattle.wire_rows.proofs.tests.lists_of_each_length.Given as given

@@ -1,3 +1,4 @@
+-- The arrays keep their lengths.
 use mathlib.Core.Path.{_≡_}
 use lib.ListN.{length}
 use Rattle.wire_rows.proofs.tests.longest_answer.Given as given
