@@ -1,6 +1,7 @@
 // Rows of bytes, and the calls and answers that they are, worked out by hand from the rules: a call
 // is its number and its fields, four bytes each, low byte first, and a list behind its count in a
-// byte; an answer has eight bytes for each number. The tests run every row through the code.
+// byte; an answer has eight bytes for each number. Long rows are written in hexadecimal. The tests run
+// every row through the code.
 #[cfg(test)]
 mod tests {
     use protocol::Answer;
@@ -95,48 +96,17 @@ mod tests {
 
     #[test]
     fn calls_with_a_list() -> Result<(), Fail> {
-        let row = [
-            0,
-            1,
-            0,
-            0,
-            0,
-            2,
-            0,
-            0,
-            0,
-            100,
-            0,
-            0,
-            0,
-            200,
-            0,
-            0,
-            0,
-            3,
-            5,
-            0,
-            0,
-            0,
-            3,
-            0,
-            0,
-            0,
-            2,
-            0,
-            0,
-            0,
-        ];
+        let row = b"\0\x01\0\0\0\x02\0\0\0\x64\0\0\0\xc8\0\0\0\x03\x05\0\0\0\x03\0\0\0\x02\0\0\0";
         let open = Call::Open {
             from: 1,
             to: 2,
             leaves: 100,
             arrives: 200,
         };
-        check(is_row(&row, open, &[5, 3, 2])).note("open")?;
-        let row = [2, 1, 0, 0, 0, 9, 0, 0, 0, 2, 7, 0, 0, 0, 0, 0, 1, 0];
+        check(is_row(row, open, &[5, 3, 2])).note("open")?;
+        let row = b"\x02\x01\0\0\0\x09\0\0\0\x02\x07\0\0\0\0\0\x01\0";
         let book = Call::Book { class: 1, seats: 9 };
-        check(is_row(&row, book, &[7, 65_536])).note("book")?;
+        check(is_row(row, book, &[7, 65_536])).note("book")?;
         let row = [5, 255, 255, 0, 0, 1, 232, 3, 0, 0];
         check(is_row(&row, Call::Limits { leg: 65_535 }, &[1000])).note("limits")?;
         let row = [8, 25, 0, 0, 0, 1, 255, 255, 255, 255];
@@ -145,29 +115,7 @@ mod tests {
 
     #[test]
     fn calls_without_a_list() -> Result<(), Fail> {
-        let row = [
-            1,
-            1,
-            0,
-            0,
-            0,
-            3,
-            0,
-            0,
-            0,
-            2,
-            0,
-            0,
-            0,
-            8,
-            0,
-            0,
-            0,
-            0,
-            225,
-            245,
-            5,
-        ];
+        let row = b"\x01\x01\0\0\0\x03\0\0\0\x02\0\0\0\x08\0\0\0\0\xe1\xf5\x05";
         let file = Call::File {
             origin: 1,
             goal: 3,
@@ -175,7 +123,7 @@ mod tests {
             most_legs: 8,
             price: 100_000_000,
         };
-        check(is_row(&row, file, &[])).note("file")?;
+        check(is_row(row, file, &[])).note("file")?;
         let booking = 999_999;
         check(is_row(&[3, 63, 66, 15, 0], Call::Pay { booking }, &[])).note("pay")?;
         check(is_row(&[4, 63, 66, 15, 0], Call::Cancel { booking }, &[])).note("cancel")?;
@@ -221,58 +169,32 @@ mod tests {
 
     #[test]
     fn answers() -> Result<(), Fail> {
-        let row = [0, 6, 0, 0, 0, 0, 0, 0, 0, 1, 0, 0, 0, 0, 0, 0, 0];
+        let row = b"\0\x06\0\0\0\0\0\0\0\x01\0\0\0\0\0\0\0";
         let refused = Answer::Refused {
             refusal: 6,
             place: 1,
         };
-        check(answers_as(refused, &[], &row)).note("refused")?;
+        check(answers_as(refused, &[], row)).note("refused")?;
         let row = [1, 0, 72, 39, 173, 1, 0, 0, 0];
         let number = Answer::Number {
             value: 7_200_000_000,
         };
         check(answers_as(number, &[], &row)).note("a number")?;
-        let row = [2, 63, 66, 15, 0, 0, 0, 0, 0, 1, 0, 0, 0, 0, 0, 0, 0];
+        let row = b"\x02\x3f\x42\x0f\0\0\0\0\0\x01\0\0\0\0\0\0\0";
         let booked = Answer::Booked {
             booking: 999_999,
             stands: 1,
         };
-        check(answers_as(booked, &[], &row)).note("booked")?;
-        let row = [
-            3,
-            1,
-            0,
-            0,
-            0,
-            0,
-            0,
-            0,
-            0,
-            40,
-            0,
-            0,
-            0,
-            0,
-            0,
-            0,
-            0,
-            8,
-            7,
-            6,
-            5,
-            4,
-            3,
-            2,
-            1,
-        ];
+        check(answers_as(booked, &[], row)).note("booked")?;
+        let row = b"\x03\x01\0\0\0\0\0\0\0\x28\0\0\0\0\0\0\0\x08\x07\x06\x05\x04\x03\x02\x01";
         let stands = Answer::Stands {
             stands: 1,
             until: 40,
             paid: 72_623_859_790_382_856,
         };
-        check(answers_as(stands, &[], &row)).note("stands")?;
-        let row = [4, 2, 2, 0, 0, 0, 0, 0, 0, 0, 0, 1, 0, 0, 0, 0, 0, 0];
-        check(answers_as(Answer::Sold, &[2, 256], &row)).note("sold")?;
+        check(answers_as(stands, &[], row)).note("stands")?;
+        let row = b"\x04\x02\x02\0\0\0\0\0\0\0\0\x01\0\0\0\0\0\0";
+        check(answers_as(Answer::Sold, &[2, 256], row)).note("sold")?;
         check(answers_as(Answer::Sold, &[], &[4, 0])).note("nothing sold")
     }
 
