@@ -1,2 +1,3 @@
 pub mod Wholes
 pub mod Fields
+pub mod Numbers

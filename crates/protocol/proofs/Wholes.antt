@@ -1,7 +1,5 @@
 -- Nothing of a call is lost by taking it apart.
-use mathlib.Core.Path.{_≡_, refl}
-use mathlib.Core.Bool.{true, false}
-use Prim.Native.Nat.{ℕ}
+use mathlib.Core.Path.{refl}
 use native.Mathlib.Omega.{arith}
 use Rattle.std.proofs.shelf.Tests.{true≢false}
 use Rattle.meaning.specs.Calls.{opens, files, books, pays, cancels, limits-to, ticks, free, price-of, booking, leg-is, garbled, call-number}

@@ -1,10 +1,11 @@
 -- A call put together from the numbers that were read: only as many count as its number asks for.
-use mathlib.Core.Path.{_≡_, refl, ap, _∙_}
+use mathlib.Core.Path.{_≡_, ap, _∙_}
 use mathlib.Core.List.{List, []}
-use Prim.Native.Nat.{ℕ, zero, suc, _≤_, _<_, min}
+use Prim.Native.Nat.{ℕ, _≤_, _<_, min}
 use native.Mathlib.Omega.{arith}
 use lib.ListN.{getD, take}
 use Rattle.meaning.specs.Calls.{opens, files, books, pays, cancels, limits-to, ticks, free, price-of, booking, leg-is}
+use Rattle.protocol.proofs.Numbers.{each-call, few-fields}
 use Rattle.protocol.specs.Forms.{field-count, made}
 use Rattle.scan.specs.Told.{List-told}
 use Rattle.scan.specs.Words.{got, bad, and-then, numbers-in}
@@ -16,37 +17,27 @@ use Rattle.text.specs.CallLines.{listing-in, rest-in}
 use Rattle.text.specs.Told.{Rest-told}
 
 -- at most five numbers
-pub few-fields : (k : ℕ) → min (field-count k) 5 ≡ field-count k
-few-fields zero = refl
-few-fields (suc zero) = refl
-few-fields (suc (suc zero)) = refl
-few-fields (suc (suc (suc zero))) = refl
-few-fields (suc (suc (suc (suc zero)))) = refl
-few-fields (suc (suc (suc (suc (suc zero))))) = refl
-few-fields (suc (suc (suc (suc (suc (suc zero)))))) = refl
-few-fields (suc (suc (suc (suc (suc (suc (suc zero))))))) = refl
-few-fields (suc (suc (suc (suc (suc (suc (suc (suc zero)))))))) = refl
-few-fields (suc (suc (suc (suc (suc (suc (suc (suc (suc zero))))))))) = refl
-few-fields (suc (suc (suc (suc (suc (suc (suc (suc (suc (suc zero)))))))))) = refl
-few-fields (suc (suc (suc (suc (suc (suc (suc (suc (suc (suc (suc k))))))))))) = refl
+pub five-at-most : (k : ℕ) → k ≤ 10 → min (field-count k) 5 ≡ field-count k
+five-at-most k b = let h = few-fields k b in omega arith
 
 -- numbers that agree as far as they count make the same call
-same-made : (k : ℕ) (fs gs list : List ℕ) → k ≤ 10 → ((i : ℕ) → i < field-count k → getD fs i 0 ≡ getD gs i 0) → made k fs list ≡ made k gs list
-same-made zero fs gs list b h = λ d. opens (h 0 (omega arith) d) (h 1 (omega arith) d) (h 2 (omega arith) d) (h 3 (omega arith) d) list
-same-made (suc zero) fs gs list b h = λ d. files (h 0 (omega arith) d) (h 1 (omega arith) d) (h 2 (omega arith) d) (h 3 (omega arith) d) (h 4 (omega arith) d)
-same-made (suc (suc zero)) fs gs list b h = λ d. books (h 0 (omega arith) d) (h 1 (omega arith) d) list
-same-made (suc (suc (suc zero))) fs gs list b h = λ d. pays (h 0 (omega arith) d)
-same-made (suc (suc (suc (suc zero)))) fs gs list b h = λ d. cancels (h 0 (omega arith) d)
-same-made (suc (suc (suc (suc (suc zero))))) fs gs list b h = λ d. limits-to (h 0 (omega arith) d) list
-same-made (suc (suc (suc (suc (suc (suc zero)))))) fs gs list b h = λ d. ticks (h 0 (omega arith) d)
-same-made (suc (suc (suc (suc (suc (suc (suc zero))))))) fs gs list b h = λ d. free (h 0 (omega arith) d) (h 1 (omega arith) d)
-same-made (suc (suc (suc (suc (suc (suc (suc (suc zero)))))))) fs gs list b h = λ d. price-of (h 0 (omega arith) d) list
-same-made (suc (suc (suc (suc (suc (suc (suc (suc (suc zero))))))))) fs gs list b h = λ d. booking (h 0 (omega arith) d)
-same-made (suc (suc (suc (suc (suc (suc (suc (suc (suc (suc zero)))))))))) fs gs list b h = λ d. leg-is (h 0 (omega arith) d)
-same-made (suc (suc (suc (suc (suc (suc (suc (suc (suc (suc (suc k))))))))))) fs gs list b h = absurd (omega arith)
+same-made : (fs gs list : List ℕ) (k : ℕ) → k ≤ 10 → ((i : ℕ) → i < field-count k → getD fs i 0 ≡ getD gs i 0) → made k fs list ≡ made k gs list
+same-made fs gs list =
+    each-call (λ k. ((i : ℕ) → i < field-count k → getD fs i 0 ≡ getD gs i 0) → made k fs list ≡ made k gs list)
+    (λ h d. opens (h 0 (omega arith) d) (h 1 (omega arith) d) (h 2 (omega arith) d) (h 3 (omega arith) d) list)
+    (λ h d. files (h 0 (omega arith) d) (h 1 (omega arith) d) (h 2 (omega arith) d) (h 3 (omega arith) d) (h 4 (omega arith) d))
+    (λ h d. books (h 0 (omega arith) d) (h 1 (omega arith) d) list)
+    (λ h d. pays (h 0 (omega arith) d))
+    (λ h d. cancels (h 0 (omega arith) d))
+    (λ h d. limits-to (h 0 (omega arith) d) list)
+    (λ h d. ticks (h 0 (omega arith) d))
+    (λ h d. free (h 0 (omega arith) d) (h 1 (omega arith) d))
+    (λ h d. price-of (h 0 (omega arith) d) list)
+    (λ h d. booking (h 0 (omega arith) d))
+    (λ h d. leg-is (h 0 (omega arith) d))
 
 pub made-take : (k : ℕ) (fs list : List ℕ) → k ≤ 10 → made k (take (field-count k) fs) list ≡ made k fs list
-made-take k fs list b = same-made k (take (field-count k) fs) fs list b (λ i h. getD-take (field-count k) fs i 0 h)
+made-take k fs list b = same-made (take (field-count k) fs) fs list k b (λ i h. getD-take (field-count k) fs i 0 h)
 
 -- what is read behind the first word, where the numbers don't fit, where the list doesn't, and where both do
 pub numbers-stop : (k left : ℕ) (bs : List ℕ) → numbers-in (field-count k) bs ≡ bad left → rest-in k bs ≡ bad left

@@ -3,7 +3,7 @@ use mathlib.Core.Path.{_≡_, refl, sym, ap, _∙_}
 use mathlib.Core.Bool.{Bool, true, false}
 use mathlib.Core.List.{List, [], _∷_, _++_}
 use mathlib.Core.Logic.{inl, inr}
-use Prim.Native.Nat.{ℕ, zero, suc, _≤_, _<_}
+use Prim.Native.Nat.{ℕ, _≤_, _<_}
 use native.Mathlib.Omega.{arith}
 use lib.Dec.{eqb}
 use lib.ListN.{length, getD}
@@ -13,6 +13,7 @@ use Rattle.meaning.specs.Lines.{pick}
 use Rattle.meaning.specs.Calls.{call-number}
 use Rattle.meaning.specs.Promise.{all-fields}
 use Rattle.protocol.proofs.Fields.{written}
+use Rattle.protocol.proofs.Numbers.{each-call}
 use Rattle.protocol.proofs.Wholes.{nothing-lost}
 use Rattle.protocol.specs.Forms.{fields, listing, field-count, has-list, made}
 use Rattle.scan.proofs.Back.{Each, spaced-ends, spaced-ends-line, numbers-back, list-back, space-word, space-rest, word-back, rest-back}
@@ -31,18 +32,19 @@ record Verb (k : ℕ) : Type 0 where
 
 verb-is : (k : ℕ) → k ≤ 10 → Verb k
 unfolding place-among
-verb-is zero h = record { found = refl; some = omega arith; whole = (refl, (refl, (refl, (refl, tt)))) }
-verb-is (suc zero) h = record { found = refl; some = omega arith; whole = (refl, (refl, (refl, (refl, tt)))) }
-verb-is (suc (suc zero)) h = record { found = refl; some = omega arith; whole = (refl, (refl, (refl, (refl, tt)))) }
-verb-is (suc (suc (suc zero))) h = record { found = refl; some = omega arith; whole = (refl, (refl, (refl, tt))) }
-verb-is (suc (suc (suc (suc zero)))) h = record { found = refl; some = omega arith; whole = (refl, (refl, (refl, (refl, (refl, (refl, tt)))))) }
-verb-is (suc (suc (suc (suc (suc zero))))) h = record { found = refl; some = omega arith; whole = (refl, (refl, (refl, (refl, (refl, (refl, tt)))))) }
-verb-is (suc (suc (suc (suc (suc (suc zero)))))) h = record { found = refl; some = omega arith; whole = (refl, (refl, (refl, (refl, (refl, tt))))) }
-verb-is (suc (suc (suc (suc (suc (suc (suc zero))))))) h = record { found = refl; some = omega arith; whole = (refl, (refl, (refl, (refl, tt)))) }
-verb-is (suc (suc (suc (suc (suc (suc (suc (suc zero)))))))) h = record { found = refl; some = omega arith; whole = (refl, (refl, (refl, (refl, (refl, tt))))) }
-verb-is (suc (suc (suc (suc (suc (suc (suc (suc (suc zero))))))))) h = record { found = refl; some = omega arith; whole = (refl, (refl, (refl, (refl, (refl, (refl, (refl, tt))))))) }
-verb-is (suc (suc (suc (suc (suc (suc (suc (suc (suc (suc zero)))))))))) h = record { found = refl; some = omega arith; whole = (refl, (refl, (refl, tt))) }
-verb-is (suc (suc (suc (suc (suc (suc (suc (suc (suc (suc (suc k))))))))))) h = absurd (omega arith)
+verb-is =
+    each-call Verb
+    (record { found = refl; some = omega arith; whole = (refl, (refl, (refl, (refl, tt)))) })
+    (record { found = refl; some = omega arith; whole = (refl, (refl, (refl, (refl, tt)))) })
+    (record { found = refl; some = omega arith; whole = (refl, (refl, (refl, (refl, tt)))) })
+    (record { found = refl; some = omega arith; whole = (refl, (refl, (refl, tt))) })
+    (record { found = refl; some = omega arith; whole = (refl, (refl, (refl, (refl, (refl, (refl, tt)))))) })
+    (record { found = refl; some = omega arith; whole = (refl, (refl, (refl, (refl, (refl, (refl, tt)))))) })
+    (record { found = refl; some = omega arith; whole = (refl, (refl, (refl, (refl, (refl, tt))))) })
+    (record { found = refl; some = omega arith; whole = (refl, (refl, (refl, (refl, tt)))) })
+    (record { found = refl; some = omega arith; whole = (refl, (refl, (refl, (refl, (refl, tt))))) })
+    (record { found = refl; some = omega arith; whole = (refl, (refl, (refl, (refl, (refl, (refl, (refl, tt))))))) })
+    (record { found = refl; some = omega arith; whole = (refl, (refl, (refl, tt))) })
 
 -- the words before lists
 record Joint (w : List ℕ) : Type 0 where

@@ -9,16 +9,17 @@ use lib.Dec.{lit<, lit≤}
 use lib.ListN.{length, getD, take, drop, length-append, length-drop, replicate}
 use Rattle.std.proofs.shelf.Lists.{drop-all, drop-at, getD-at, take-all, take-append-drop, drop-more, length-take-le}
 use Rattle.std.proofs.shelf.Tests.{cases-lt, cases-order, lt-ltb, ltb-true, and-parts, and-from}
-use Rattle.std.proofs.shelf.Ways.{tells}
-use Rattle.meaning.specs.Calls.{Call, opens, files, books, pays, cancels, limits-to, ticks, free, price-of, booking, leg-is, garbled, call-number}
+use Rattle.meaning.specs.Calls.{Call, opens, garbled, call-number}
 use Rattle.meaning.specs.Promise.{field, all-fields, short, readable}
 use Rattle.protocol.specs.Forms.{fields, listing, field-count, has-list, made}
+use Rattle.protocol.proofs.Fields.{Written, written}
+use Rattle.protocol.proofs.Numbers.{each-call, few-fields}
 use Rattle.protocol.proofs.Wholes.{nothing-lost}
 use Rattle.wire.specs.Bytes.{bytes-of, number-of, row-of, numbers-in, Bytes}
 use Rattle.wire.specs.Rows.{Can-be-written, in-bytes, encoded, list-at, extent, decoded}
 use Rattle.wire.specs.Theorems.{Calls-come-back, Bytes-come-back, Calls-fit, None-alike, Calls-within, Most-bytes}
 use Rattle.wire.proofs.Fields.{numbers-length, row-length, number-back, bytes-back}
-use Rattle.wire.proofs.Decoding.{each-call, few-fields, list-at-listed, list-at-plain, extent-listed, extent-plain, decoded-empty, decoded-unknown, decoded-short, decoded-long, decoded-whole}
+use Rattle.wire.proofs.Decoding.{list-at-listed, list-at-plain, extent-listed, extent-plain, decoded-empty, decoded-unknown, decoded-short, decoded-long, decoded-whole}
 use Rattle.wire.proofs.Encoding.{in-bytes-listed, in-bytes-plain}
 
 -- numbers in a row are read from it, whatever stands behind
@@ -37,27 +38,6 @@ numbers-all (n ∷ ns) a =
     let (x, xs) = and-parts (field n) (all-fields ns) a in
     let e : number-of (bytes-of 4 n) ≡ n = number-back 4 n (ltb-true n 4294967296 x) in
     ap (λ m. m ∷ numbers-in (row-of 4 ns)) e ∙ ap (λ l. n ∷ l) (numbers-all ns xs)
-
--- what can be written of a call that is readable
-pub record Small-parts (c : Call) : Type 0 where
-  pub small-fields : all-fields (fields c) ≡ true
-  pub small-list : all-fields (listing c) ≡ true
-  pub counted : length (listing c) < 256
-
-small-parts : (c : Call) → Can-be-written c → Small-parts c
-unfolding readable all-fields call-number
-small-parts (opens a b c d ls) w = let r = w .fits in record { small-fields = grind (arith, tells); small-list = grind (arith, tells); counted = grind (arith, tells) }
-small-parts (files a b c n p) w = let r = w .fits in record { small-fields = grind (arith, tells); small-list = refl; counted = lit< tt }
-small-parts (books c n is) w = let r = w .fits in record { small-fields = grind (arith, tells); small-list = grind (arith, tells); counted = grind (arith, tells) }
-small-parts (pays k) w = let r = w .fits in record { small-fields = grind (arith, tells); small-list = refl; counted = lit< tt }
-small-parts (cancels k) w = let r = w .fits in record { small-fields = grind (arith, tells); small-list = refl; counted = lit< tt }
-small-parts (limits-to i ls) w = let r = w .fits in record { small-fields = grind (arith, tells); small-list = grind (arith, tells); counted = grind (arith, tells) }
-small-parts (ticks n) w = let r = w .fits in record { small-fields = grind (arith, tells); small-list = refl; counted = lit< tt }
-small-parts (free i c) w = let r = w .fits in record { small-fields = grind (arith, tells); small-list = refl; counted = lit< tt }
-small-parts (price-of c is) w = let r = w .fits in record { small-fields = grind (arith, tells); small-list = grind (arith, tells); counted = grind (arith, tells) }
-small-parts (booking k) w = let r = w .fits in record { small-fields = grind (arith, tells); small-list = refl; counted = lit< tt }
-small-parts (leg-is i) w = let r = w .fits in record { small-fields = grind (arith, tells); small-list = refl; counted = lit< tt }
-small-parts (garbled n) w = let h = w .is-call in absurd (omega arith)
 
 -- a row without a list is read as it was written
 plain-back : (k : ℕ) (fs : List ℕ) → k ≤ 10 → length fs ≡ field-count k → all-fields fs ≡ true → false ≡ has-list k → made k fs [] ≡ decoded (k ∷ row-of 4 fs)
@@ -93,18 +73,18 @@ pub calls-come-back : Calls-come-back
 unfolding encoded
 calls-come-back c w = go (has-list (call-number c)) refl
   where
-    s : Small-parts c
-    s = small-parts c w
+    s : Written c
+    s = written c (w .fits)
 
     go : (b : Bool) → b ≡ has-list (call-number c) → decoded (in-bytes (call-number c) (fields c) (listing c)) ≡ c
     go true h =
         let k = nothing-lost c (w .is-call) in
         ap decoded (in-bytes-listed (call-number c) (fields c) (listing c) h)
-        ∙ (sym (listed-back (call-number c) (fields c) (listing c) (w .is-call) (k .counted) (s .small-fields) (s .small-list) h) ∙ k .back)
+        ∙ (sym (listed-back (call-number c) (fields c) (listing c) (w .is-call) (k .counted) (s .numbers) (s .list) h) ∙ k .back)
     go false h =
         let k = nothing-lost c (w .is-call) in
         ap decoded (in-bytes-plain (call-number c) (fields c) (listing c) h)
-        ∙ (sym (plain-back (call-number c) (fields c) (w .is-call) (k .counted) (s .small-fields) h) ∙ (ap (λ l. made (call-number c) (fields c) l) (sym (k .unlisted (sym h))) ∙ k .back))
+        ∙ (sym (plain-back (call-number c) (fields c) (w .is-call) (k .counted) (s .numbers) h) ∙ (ap (λ l. made (call-number c) (fields c) l) (sym (k .unlisted (sym h))) ∙ k .back))
 
 pub none-alike : None-alike
 none-alike c d v w e = sym (calls-come-back c v) ∙ (ap decoded e ∙ calls-come-back d w)
@@ -334,8 +314,8 @@ calls-within : Calls-within 1038
 unfolding encoded
 calls-within c w = go (has-list (call-number c)) refl
   where
-    s : Small-parts c
-    s = small-parts c w
+    s : Written c
+    s = written c (w .fits)
 
     go : (b : Bool) → b ≡ has-list (call-number c) → length (in-bytes (call-number c) (fields c) (listing c)) ≤ 1038
     go true h =
@@ -345,7 +325,7 @@ calls-within c w = go (has-list (call-number c)) refl
         let l = row-length 4 (listing c) in
         let n = nothing-lost c (w .is-call) .counted in
         let m = few-before (call-number c) (w .is-call) h in
-        let q = s .counted in
+        let q = s .count in
         omega arith
     go false h =
         let e = ap length (in-bytes-plain (call-number c) (fields c) (listing c) h) in

@@ -2,31 +2,17 @@
 use mathlib.Core.Path.{_≡_, refl, sym, ap, _∙_}
 use mathlib.Core.Bool.{Bool, true, false}
 use mathlib.Core.List.{List, [], _∷_}
-use Prim.Native.Nat.{ℕ, zero, suc, _+_, _*_, _≤_, _<_}
+use Prim.Native.Nat.{ℕ, _+_, _*_, _≤_, _<_}
 use native.Mathlib.Omega.{arith}
-use lib.Dec.{lit<, lit≤}
+use lib.Dec.{lit<}
 use lib.ListN.{length, getD, take, drop}
 use Rattle.std.proofs.shelf.Lists.{getD-default}
 use Rattle.std.proofs.shelf.Tests.{lt-ltb, le-ltb}
 use Rattle.meaning.specs.Calls.{garbled}
+use Rattle.protocol.proofs.Numbers.{each-call}
 use Rattle.protocol.specs.Forms.{field-count, has-list, made}
 use Rattle.wire.specs.Bytes.{numbers-in}
 use Rattle.wire.specs.Rows.{list-at, extent, read-as, decoded}
-
--- what holds for each of the numbers 0 to 10 holds for all calls
-pub each-call : (P : ℕ → Type 0) → P 0 → P 1 → P 2 → P 3 → P 4 → P 5 → P 6 → P 7 → P 8 → P 9 → P 10 → (k : ℕ) → k ≤ 10 → P k
-each-call P a b c d e f g h i j l zero le = a
-each-call P a b c d e f g h i j l (suc zero) le = b
-each-call P a b c d e f g h i j l (suc (suc zero)) le = c
-each-call P a b c d e f g h i j l (suc (suc (suc zero))) le = d
-each-call P a b c d e f g h i j l (suc (suc (suc (suc zero)))) le = e
-each-call P a b c d e f g h i j l (suc (suc (suc (suc (suc zero))))) le = f
-each-call P a b c d e f g h i j l (suc (suc (suc (suc (suc (suc zero)))))) le = g
-each-call P a b c d e f g h i j l (suc (suc (suc (suc (suc (suc (suc zero))))))) le = h
-each-call P a b c d e f g h i j l (suc (suc (suc (suc (suc (suc (suc (suc zero)))))))) le = i
-each-call P a b c d e f g h i j l (suc (suc (suc (suc (suc (suc (suc (suc (suc zero))))))))) le = j
-each-call P a b c d e f g h i j l (suc (suc (suc (suc (suc (suc (suc (suc (suc (suc zero)))))))))) le = l
-each-call P a b c d e f g h i j l (suc (suc (suc (suc (suc (suc (suc (suc (suc (suc (suc k))))))))))) le = absurd (omega arith)
 
 unknown : (bs : List ℕ) (k : ℕ) → 10 < k → read-as k bs ≡ garbled 0
 unfolding read-as
@@ -80,10 +66,6 @@ made-same = each-call (λ k. (fs gs list : List ℕ) → ((i : ℕ) → i < fiel
     (λ fs gs list h. rw (h 0 (lit< tt)))
     (λ fs gs list h. rw (h 0 (lit< tt)))
     (λ fs gs list h. rw (h 0 (lit< tt)))
-
--- no call has more than five numbers
-pub few-fields : (k : ℕ) → k ≤ 10 → field-count k ≤ 5
-few-fields = each-call (λ k. field-count k ≤ 5) (lit≤ tt) (lit≤ tt) (lit≤ tt) (lit≤ tt) (lit≤ tt) (lit≤ tt) (lit≤ tt) (lit≤ tt) (lit≤ tt) (lit≤ tt) (lit≤ tt)
 
 -- where a list begins and how long a row should be, of a call with a list and of one without
 pub list-at-listed : (k n : ℕ) → n ≡ field-count k → true ≡ has-list k → list-at k ≡ 2 + 4 * n

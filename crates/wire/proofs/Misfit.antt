@@ -14,7 +14,8 @@ use Rattle.protocol.specs.Forms.{field-count, has-list, made}
 use Rattle.wire.specs.Bytes.{Bytes, numbers-in}
 use Rattle.wire.specs.Rows.{list-at, extent, decoded}
 use Rattle.wire.specs.Theorems.{First-misfit, Misfits}
-use Rattle.wire.proofs.Decoding.{each-call, extent-listed, extent-plain, decoded-empty, decoded-unknown, decoded-short, decoded-long, decoded-whole, list-within}
+use Rattle.protocol.proofs.Numbers.{each-call}
+use Rattle.wire.proofs.Decoding.{extent-listed, extent-plain, decoded-empty, decoded-unknown, decoded-short, decoded-long, decoded-whole, list-within}
 use Rattle.wire.proofs.Back.{Whole, no-call, whole-row}
 
 -- a call that is made of parts has their number

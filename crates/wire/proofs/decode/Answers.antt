@@ -9,7 +9,8 @@ use Rattle.meaning.specs.Calls.{call-number}
 use Rattle.protocol.specs.Forms.{call-of, field-count, made}
 use Rattle.wire.specs.Bytes.{numbers-in}
 use Rattle.wire.specs.Rows.{Can-be-written, decoded, list-at}
-use Rattle.wire.proofs.Decoding.{decoded-empty, decoded-unknown, decoded-short, decoded-long, decoded-whole, made-same, few-fields, list-within}
+use Rattle.protocol.proofs.Numbers.{few-fields}
+use Rattle.wire.proofs.Decoding.{decoded-empty, decoded-unknown, decoded-short, decoded-long, decoded-whole, made-same, list-within}
 use Rattle.wire.proofs.Encoding.{is-call}
 use Rattle.wire.proofs.Back.{bytes-from, calls-fit}
 use Rattle.wire.proofs.decode.Needs as need
