@@ -1,0 +1,8 @@
+use borrow.Author.Needs.{needs}
+use native.Mathlib.Omega.{arith}
+use mathlib.Core.Path.{_≡_, refl}
+use Rattle.counts.proofs.Shares.{shared-more, shared-less}
+use Rattle.counts.proofs.take_on.Needs as need
+
+pub loop-c-again : need.loop-c-again
+loop-c-again c = shared-more (c .args .legs .now) (c .loop-c .legs) (c .args .i) (c .loop-c .c) (c .args .seats) _ (omega arith) (omega arith) (c .loop-c .inv) refl
