@@ -4,7 +4,7 @@
 // at most 8 legs times 26 classes; nothing goes through all bookings. That the counts are then what
 // going through all of them would give is shown one layer up, where the bookings are.
 ghost use mathlib.Core.Path.{_≡_};
-ghost use mathlib.Core.Bool.{Bool, false, true};
+ghost use mathlib.Core.Bool.{false, true};
 ghost use Prim.Native.Nat.{ℕ, _+_, _*_, _^_, _<_, _≤_};
 ghost use lib.ListN.{length};
 ghost use Rattle.records.specs.Words.{leg-in};

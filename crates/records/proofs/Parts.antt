@@ -9,7 +9,7 @@ use borrow.Author.Needs.{needs}
 use borrow.Rule.Slice.PartMut.{putMid, postOf}
 use lib.ListN.{getD, length, take, drop, replicate}
 use Rattle.std.proofs.shelf.Tests.{cases-lt, cases-order}
-use Rattle.std.proofs.shelf.Lists.{same-lists, places, take-at, drop-at, drop-all, drop-replicate, append-nil, append-assoc, length-append, length-drop}
+use Rattle.std.proofs.shelf.Lists.{same-lists, places, take-at, drop-at, drop-all, drop-replicate, append-nil, length-drop}
 use Rattle.records.specs.declared.Leg.{Leg}
 use Rattle.records.specs.declared.Booking.{Booking}
 use Rattle.records.specs.Words.{part, leg-read, booking-read, padded}

@@ -6,7 +6,7 @@
 ghost use mathlib.Core.Path.{_≡_};
 ghost use Prim.Native.Nat.{ℕ, _+_, _*_, _<_, _≤_};
 ghost use lib.ListN.{length, getD};
-ghost use Rattle.records.specs.Words.{booking-in, booking-read, fare-in, leg-in, leg-read, padded};
+ghost use Rattle.records.specs.Words.{booking-in, booking-read, fare-in, leg-in, leg-read, padded, part};
 
 // Words of a leg: 31 for the leg itself, 26 counts of what is taken, 71 spare.
 pub const LEG_WORDS: usize = 128;
@@ -225,13 +225,11 @@ fn write_booking(w: &mut [u32], b: &Booking)
     w[0..13].copy_from_slice(&words);
 }
 
-// Makes this booking k, with its sum. No other booking changes.
-pub fn store_booking(bookings: &mut [u32], sums: &mut [u64], k: usize, b: &Booking)
-    requires words { ⌜ k * 22 + 22 ≤ length (now bookings) ⌝ }
-    requires sum { ⌜ k < length (now sums) ⌝ }
-    ensures this { λ _. ⌜ booking-in (now (bookings .exit)) (now (sums .exit)) k ≡ now (b .entry) ⌝ }
-    ensures others { λ _. ⌜ ((j : ℕ) → (j ≡ k → ⊥) → booking-in (now (bookings .exit)) (now (sums .exit)) j ≡ booking-in (now (bookings .entry)) (now (sums .entry)) j) ⌝ }
+// Makes this booking k, but for its sum, which the caller keeps. No other booking changes.
+pub fn store_booking(bookings: &mut [u32], k: usize, b: &Booking)
+    requires { ⌜ k * 22 + 22 ≤ length (now bookings) ⌝ }
+    ensures this { λ _. ⌜ booking-read (part 22 13 (now (bookings .exit)) k) (now (b .entry) .paid) ≡ now (b .entry) ⌝ }
+    ensures others { λ _. ⌜ ((j : ℕ) → (j ≡ k → ⊥) → part 22 13 (now (bookings .exit)) j ≡ part 22 13 (now (bookings .entry)) j) ⌝ }
 {
     write_booking(&mut bookings[k * BOOKING_WORDS..k * BOOKING_WORDS + 13], b);
-    sums[k] = b.paid;
 }

@@ -4,7 +4,7 @@ use native.Mathlib.Omega.{arith}
 use mathlib.Core.Path.{_≡_, ap, _∙_}
 use mathlib.Core.List.{List}
 use Prim.Native.Nat.{ℕ, _+_, _-_, _*_, _≤_}
-use lib.ListN.{length, getD, replicate}
+use lib.ListN.{length, getD}
 use Rattle.std.proofs.shelf.Lists.{getD-replicate}
 use Rattle.records.specs.Words.{leg-read}
 use Rattle.records.proofs.Parts.{beside, inside, outside}

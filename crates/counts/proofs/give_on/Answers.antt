@@ -1,7 +1,5 @@
-use borrow.Author.Needs.{needs}
 use native.Mathlib.Omega.{arith}
-use mathlib.Core.Path.{_≡_, refl}
-use Rattle.counts.proofs.Shares.{shared-more, shared-less, same-here}
+use Rattle.counts.proofs.Shares.{shared-less, same-here}
 use Rattle.counts.proofs.give_on.Needs as need
 
 pub loop-c-again : need.loop-c-again

@@ -1,7 +1,6 @@
-use borrow.Author.Needs.{needs}
 use native.Mathlib.Omega.{arith}
-use mathlib.Core.Path.{_≡_, refl}
-use Rattle.counts.proofs.Shares.{shared-more, shared-less}
+use mathlib.Core.Path.{refl}
+use Rattle.counts.proofs.Shares.{shared-more}
 use Rattle.counts.proofs.take_on.Needs as need
 
 pub loop-c-again : need.loop-c-again
