@@ -60,7 +60,7 @@ new-leg (a ∷ xs) (suc n) (suc x) e h l =
 
 -- the first x legs of a booking are counted in the second words, over the first
 pub record On (v w : List ℕ) (b : Booking) (x : ℕ) : Type 0 where
-  pub counts : (j c : ℕ) → c < 26 → count-in w j c ≡ count-in v j c + pick (goes (take x (b .legs)) j && leb c (b .class)) (b .seats) 0
+  pub counts : (j c : ℕ) → c < 97 → count-in w j c ≡ count-in v j c + pick (goes (take x (b .legs)) j && leb c (b .class)) (b .seats) 0
   pub legs : (j : ℕ) → leg-in w j ≡ leg-in v j
 
 pub on-none : (v : List ℕ) (b : Booking) → On v v b 0
@@ -90,7 +90,7 @@ module _ (b : Booking) (x : ℕ) (l : x < length (b .legs)) (f : goes (take x (b
   pub on-less : (v w u : List ℕ) → On w v b x → Shared u w (getD (b .legs) x 0) (b .class + 1) (b .seats) → On u v b (x + 1)
   on-less v w u o s = record { counts = λ j c h. omega (arith, o .counts j c h, s .counts j c h, both j c); legs = λ j. o .legs j ∙ s .legs j }
 
-  pub on-fresh : (v w : List ℕ) (c : ℕ) → On v w b x → c < 26 → count-in w (getD (b .legs) x 0) c ≡ count-in v (getD (b .legs) x 0) c
+  pub on-fresh : (v w : List ℕ) (c : ℕ) → On v w b x → c < 97 → count-in w (getD (b .legs) x 0) c ≡ count-in v (getD (b .legs) x 0) c
   on-fresh v w c o h = omega (arith, o .counts (getD (b .legs) x 0) c h, ap (λ (t : Bool). pick (t && leb c (b .class)) (b .seats) 0) f)
 
 pub on-taken : (v w : List ℕ) (b : Booking) → On v w b (b .count) → Recounted v w b false true

@@ -11,13 +11,13 @@ use Rattle.meaning.specs.Calls.{no-twice}
 use Rattle.records.specs.declared.Booking.{Booking}
 use Rattle.records.specs.Words.{leg-in}
 
--- what is kept as taken on leg i in class c and the cheaper ones
+-- what is kept as taken on leg i in class c and the cheaper ones, for c below 26; the words from there to 97 are spare
 abbrev pub count-in : List ℕ → ℕ → ℕ → ℕ
 count-in w i c = getD w (i * 128 + 31 + c) 0
 
 -- in the second words so many more seats are taken on leg i, in each of the first m classes, than in the first; nothing else differs
 pub record Shared (v w : List ℕ) (i m seats : ℕ) : Type 0 where
-  pub counts : (j c : ℕ) → c < 26 → count-in w j c ≡ count-in v j c + pick (eqb i j && ltb c m) seats 0
+  pub counts : (j c : ℕ) → c < 97 → count-in w j c ≡ count-in v j c + pick (eqb i j && ltb c m) seats 0
   pub legs : (j : ℕ) → leg-in w j ≡ leg-in v j
 
 -- is a booking that stands so counted as taken: it is held or paid
@@ -45,5 +45,5 @@ Can-give w b = (x c : ℕ) → x < b .count → c ≤ b .class → b .seats ≤ 
 
 -- the second words count the booking if `is`, where the first do if `was`: on each of its legs, in its class and each dearer one; nothing else differs
 pub record Recounted (v w : List ℕ) (b : Booking) (was is : Bool) : Type 0 where
-  pub counts : (j c : ℕ) → c < 26 → count-in w j c + share b was j c ≡ count-in v j c + share b is j c
+  pub counts : (j c : ℕ) → c < 97 → count-in w j c + share b was j c ≡ count-in v j c + share b is j c
   pub legs : (j : ℕ) → leg-in w j ≡ leg-in v j

@@ -21,11 +21,11 @@ pub fn load_count(legs: &[u32], i: usize, class: usize) -> u32
     legs[i * LEG_WORDS + 31 + class]
 }
 
-// Nothing is taken on leg i. No leg changes, and no other leg's counts.
+// Nothing is taken on leg i. No leg changes, no other leg's counts, and no spare word.
 pub fn clear_counts(legs: &mut [u32], i: usize)
     requires { ⌜ i * 128 + 128 ≤ length (now legs) ⌝ }
     ensures nothing { λ _. ⌜ ((c : ℕ) → c < 26 → count-in (now (legs .exit)) i c ≡ 0) ⌝ }
-    ensures others { λ _. ⌜ ((j c : ℕ) → (j ≡ i → ⊥) → c < 26 → count-in (now (legs .exit)) j c ≡ count-in (now (legs .entry)) j c) ⌝ }
+    ensures others { λ _. ⌜ ((j c : ℕ) → c < 97 → (j ≡ i → 26 ≤ c) → count-in (now (legs .exit)) j c ≡ count-in (now (legs .entry)) j c) ⌝ }
     ensures legs { λ _. ⌜ ((j : ℕ) → leg-in (now (legs .exit)) j ≡ leg-in (now (legs .entry)) j) ⌝ }
 {
     legs[i * LEG_WORDS + 31..i * LEG_WORDS + 57].copy_from_slice(&[0; 26]);
@@ -51,8 +51,8 @@ fn give_on(legs: &mut [u32], i: usize, class: usize, seats: u32)
     requires taken { ⌜ ((c : ℕ) → c ≤ class → seats ≤ count-in (now legs) i c) ⌝ }
     ensures { λ _. ⌜ Shared (now (legs .exit)) (now (legs .entry)) i (class + 1) seats ⌝ }
 {
-    for c in 0..class + 1 {
-        let at = i * LEG_WORDS + 31 + c;
+    for d in 0..class + 1 {
+        let at = i * LEG_WORDS + 31 + d;
         legs[at] = legs[at] - seats;
     }
 }
@@ -74,8 +74,8 @@ fn give_all(legs: &mut [u32], b: &Booking)
     requires taken { ⌜ Can-give (now legs) (now b) ⌝ }
     ensures { λ _. ⌜ Recounted (now (legs .entry)) (now (legs .exit)) (now (b .entry)) true false ⌝ }
 {
-    for x in 0..b.count as usize {
-        give_on(legs, b.legs[x] as usize, b.class as usize, b.seats);
+    for y in 0..b.count as usize {
+        give_on(legs, b.legs[y] as usize, b.class as usize, b.seats);
     }
 }
 

@@ -44,17 +44,26 @@ apart size used j k h ne = elim (cases-order j k) [
   | inr (inr g) ↦ inr (omega (arith, ends size k j g))
 ]
 
--- STORING A RECORD, of whatever width: it is there then, and each other one is as it was
-module _ (size used k : ℕ) (w ys : List ℕ) (u : used ≤ size) (h : k * size + size ≤ length w) (l : length ys ≡ used) where
-  pub stored : part size used (putMid (k * size) used w ys) k ≡ ys
-  stored = here (k * size) used used w ys (omega arith) l
+-- STORING A RECORD, of whatever width: where the part that is written is the record's own, it reads as what was written, and each other one as it did
+module _ {X : Type 0} (read : List ℕ → X) (size used k a n : ℕ) (w ys : List ℕ) where
+  pub stored : (x : X) → read ys ≡ x → used ≤ size → k * size + size ≤ length w → length ys ≡ used → a ≡ k * size → n ≡ used → read (part size used (putMid a n w ys) k) ≡ x
+  stored x e u h l p q = (λ d. read (take used (drop (k * size) (putMid (p d) (q d) w ys)))) ∙ ap read (here (k * size) used used w ys (omega arith) l) ∙ e
 
-  pub others : (j : ℕ) → (j ≡ k → ⊥) → part size used (putMid (k * size) used w ys) j ≡ part size used w j
-  others j ne = beside (k * size) (j * size) used used w ys (omega arith) l (apart size used j k u ne)
+  pub others : (j : ℕ) → (j ≡ k → ⊥) → used ≤ size → k * size + size ≤ length w → length ys ≡ used → a ≡ k * size → n ≡ used → read (part size used (putMid a n w ys) j) ≡ read (part size used w j)
+  others j ne u h l p q = (λ d. read (take used (drop (j * size) (putMid (p d) (q d) w ys)))) ∙ ap read (beside (k * size) (j * size) used used w ys (omega arith) l (apart size used j k u ne))
 
--- the words behind a leg's own are none of any leg's own
-pub behind : (i j c : ℕ) → c < 97 → (i * 128 + 31 + c < j * 128) ⊎ (j * 128 + 31 ≤ i * 128 + 31 + c)
-behind i j c h = elim (cases-lt i j) [ inl l ↦ inl (omega arith) | inr g ↦ inr (omega arith) ]
+-- words behind those that a record uses are none that another one uses, of whatever width
+pub behind : (size used i j c : ℕ) → used + c < size → (i * size + used + c < j * size) ⊎ (j * size + used ≤ i * size + used + c)
+behind size used i j c h = elim (cases-lt i j) [
+  | inl l ↦ inl (omega (arith, ends size i j l))
+  | inr g ↦ inr (let m : j * size ≤ i * size = mul-le-mul-right size g in omega arith)
+]
+
+-- storing a record leaves them as they were
+pub spared : (size used k a n : ℕ) (w ys : List ℕ) (j c : ℕ) → used + c < size → k * size + size ≤ length w → length ys ≡ used → a ≡ k * size → n ≡ used →
+    getD (putMid a n w ys) (j * size + used + c) 0 ≡ getD w (j * size + used + c) 0
+spared size used k a n w ys j c h f l p q =
+    (λ d. getD (putMid (p d) (q d) w ys) (j * size + used + c) 0) ∙ outside (k * size) used (j * size + used + c) w ys (omega arith) l (behind size used j k c h)
 
 -- two parts that fill their words; over variables, since numerals unfold
 part-put : (a m : ℕ) (h r ys : List ℕ) → length h ≡ a → putMid a m (h ++ r) ys ≡ h ++ (ys ++ drop m r)

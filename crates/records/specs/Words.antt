@@ -37,3 +37,11 @@ booking-in w s k = booking-read (part 22 13 w k) (getD s k 0)
 -- numbers in an array of n, with zeros behind them
 abbrev pub padded : ℕ → List ℕ → List ℕ
 padded n xs = xs ++ replicate (n - length xs) 0
+
+-- a leg with these limits, one for each of its classes
+abbrev pub leg-of : ℕ → ℕ → ℕ → ℕ → List ℕ → Leg
+leg-of a b c d ls = record { from = a; to = b; leaves = c; arrives = d; classes = length ls; limits = padded 26 ls }
+
+-- a booking of these legs, that waits
+abbrev pub booking-of : ℕ → ℕ → List ℕ → Booking
+booking-of c n is = record { class = c; seats = n; stands = 0; until = 0; count = length is; legs = padded 8 is; paid = 0 }

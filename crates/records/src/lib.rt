@@ -6,7 +6,7 @@
 ghost use mathlib.Core.Path.{_≡_};
 ghost use Prim.Native.Nat.{ℕ, _+_, _*_, _<_, _≤_};
 ghost use lib.ListN.{length, getD};
-ghost use Rattle.records.specs.Words.{booking-in, booking-read, fare-in, leg-in, leg-read, padded, part};
+ghost use Rattle.records.specs.Words.{booking-in, booking-of, booking-read, fare-in, leg-in, leg-of, leg-read, part};
 
 // Words of a leg: 31 for the leg itself, 26 counts of what is taken, 71 spare.
 pub const LEG_WORDS: usize = 128;
@@ -52,15 +52,10 @@ pub struct Booking {
 }
 
 impl Leg {
-    // A leg with just these limits.
+    // A leg with just these limits, one for each of its classes.
     pub fn new(from: u32, to: u32, leaves: u32, arrives: u32, limits: &[u32]) -> Leg
         requires { ⌜ length (now limits) ≤ 26 ⌝ }
-        ensures from { λ r. ⌜ r .from ≡ from ⌝ }
-        ensures to { λ r. ⌜ r .to ≡ to ⌝ }
-        ensures leaves { λ r. ⌜ r .leaves ≡ leaves ⌝ }
-        ensures arrives { λ r. ⌜ r .arrives ≡ arrives ⌝ }
-        ensures classes { λ r. ⌜ r .classes ≡ length (now (limits .entry)) ⌝ }
-        ensures limits { λ r. ⌜ r .limits ≡ padded 26 (now (limits .entry)) ⌝ }
+        ensures { λ r. ⌜ r ≡ leg-of from to leaves arrives (now (limits .entry)) ⌝ }
     {
         let mut all = [0; 26];
         all[0..limits.len()].copy_from_slice(limits);
@@ -79,13 +74,7 @@ impl Booking {
     // A booking of just these legs, which waits, and for which nothing was paid.
     pub fn new(class: u32, seats: u32, legs: &[u32]) -> Booking
         requires { ⌜ length (now legs) ≤ 8 ⌝ }
-        ensures class { λ r. ⌜ r .class ≡ class ⌝ }
-        ensures seats { λ r. ⌜ r .seats ≡ seats ⌝ }
-        ensures stands { λ r. ⌜ r .stands ≡ 0 ⌝ }
-        ensures until { λ r. ⌜ r .until ≡ 0 ⌝ }
-        ensures count { λ r. ⌜ r .count ≡ length (now (legs .entry)) ⌝ }
-        ensures legs { λ r. ⌜ r .legs ≡ padded 8 (now (legs .entry)) ⌝ }
-        ensures paid { λ r. ⌜ r .paid ≡ 0 ⌝ }
+        ensures { λ r. ⌜ r ≡ booking-of class seats (now (legs .entry)) ⌝ }
     {
         let mut all = [0; 8];
         all[0..legs.len()].copy_from_slice(legs);
@@ -136,12 +125,13 @@ fn write_leg(w: &mut [u32], g: &Leg)
     w[5..31].copy_from_slice(&g.limits);
 }
 
-// Makes this leg i. No other leg changes, and no count of what is taken, leg i's neither.
+// Makes this leg i. No other leg changes, and none of the words behind a leg's own: the counts of
+// what is taken, leg i's too, and the spare ones.
 pub fn store_leg(legs: &mut [u32], i: usize, g: &Leg)
     requires { ⌜ i * 128 + 128 ≤ length (now legs) ⌝ }
     ensures this { λ _. ⌜ leg-in (now (legs .exit)) i ≡ now (g .entry) ⌝ }
     ensures others { λ _. ⌜ ((j : ℕ) → (j ≡ i → ⊥) → leg-in (now (legs .exit)) j ≡ leg-in (now (legs .entry)) j) ⌝ }
-    ensures beside { λ _. ⌜ ((j c : ℕ) → c < 97 → getD (now (legs .exit)) (j * 128 + 31 + c) 0 ≡ getD (now (legs .entry)) (j * 128 + 31 + c) 0) ⌝ }
+    ensures beside { λ _. ⌜ ((j c : ℕ) → 31 + c < 128 → getD (now (legs .exit)) (j * 128 + 31 + c) 0 ≡ getD (now (legs .entry)) (j * 128 + 31 + c) 0) ⌝ }
 {
     write_leg(&mut legs[i * LEG_WORDS..i * LEG_WORDS + 31], g);
 }
@@ -161,11 +151,12 @@ pub fn load_fare(fares: &[u32], k: usize) -> Fare
     }
 }
 
-// Makes this fare k. No other fare changes.
+// Makes this fare k. No other fare changes, and no spare word.
 pub fn store_fare(fares: &mut [u32], k: usize, f: &Fare)
     requires { ⌜ k * 24 + 24 ≤ length (now fares) ⌝ }
     ensures this { λ _. ⌜ fare-in (now (fares .exit)) k ≡ now (f .entry) ⌝ }
     ensures others { λ _. ⌜ ((j : ℕ) → (j ≡ k → ⊥) → fare-in (now (fares .exit)) j ≡ fare-in (now (fares .entry)) j) ⌝ }
+    ensures spare { λ _. ⌜ ((j c : ℕ) → 5 + c < 24 → getD (now (fares .exit)) (j * 24 + 5 + c) 0 ≡ getD (now (fares .entry)) (j * 24 + 5 + c) 0) ⌝ }
 {
     let words = [f.origin, f.goal, f.class, f.most, f.price];
     fares[k * FARE_WORDS..k * FARE_WORDS + 5].copy_from_slice(&words);
@@ -225,11 +216,13 @@ fn write_booking(w: &mut [u32], b: &Booking)
     w[0..13].copy_from_slice(&words);
 }
 
-// Makes this booking k, but for its sum, which the caller keeps. No other booking changes.
+// Makes this booking k, but for its sum, which the caller keeps. No other booking changes, and no
+// spare word.
 pub fn store_booking(bookings: &mut [u32], k: usize, b: &Booking)
     requires { ⌜ k * 22 + 22 ≤ length (now bookings) ⌝ }
     ensures this { λ _. ⌜ booking-read (part 22 13 (now (bookings .exit)) k) (now (b .entry) .paid) ≡ now (b .entry) ⌝ }
     ensures others { λ _. ⌜ ((j : ℕ) → (j ≡ k → ⊥) → part 22 13 (now (bookings .exit)) j ≡ part 22 13 (now (bookings .entry)) j) ⌝ }
+    ensures spare { λ _. ⌜ ((j c : ℕ) → 13 + c < 22 → getD (now (bookings .exit)) (j * 22 + 13 + c) 0 ≡ getD (now (bookings .entry)) (j * 22 + 13 + c) 0) ⌝ }
 {
     write_booking(&mut bookings[k * BOOKING_WORDS..k * BOOKING_WORDS + 13], b);
 }

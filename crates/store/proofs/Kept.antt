@@ -100,7 +100,7 @@ module _ (w : Words) (s : Sound-words w) where
         fares = s .fares;
         bookings = now-fine;
         counts = λ i c l m.
-            let a = r .counts i c m in
+            let a = r .counts i c (omega arith) in
             let d = taken-set (bookings-in w) k (booking-means (standing b st u p)) i c (omega (arith, many)) in
             omega (arith, a, d, counts-is i c, ap (λ (z : Bool). share b z i c) et, ap (λ (z : Bool). share b z i c) ev, s .counts i c l m, ap (λ (z : List houses.Booking). taken z i c) now-bookings);
       }
@@ -138,7 +138,7 @@ module _ (w : Words) (s : Sound-words w) where
         | inr ne ↦ (let o : (j ≡ w .booked → ⊥) = ne in subst (λ (y : Booking). Fine-booking (w .opened) y) (sym (f j ne)) (s .bookings j (omega arith)))
       ];
       counts = λ i c l n.
-          let a = r .counts i c n in
+          let a = r .counts i c (omega arith) in
           let d = taken-push (bookings-in w) (booking-means b) i c in
           omega (arith, a, d, ap (λ (z : Bool). share b z i c) ev, s .counts i c l n, ap (λ (z : List houses.Booking). taken z i c) more-bookings);
     }

@@ -1,16 +1,19 @@
 -- A leg, a fare or a booking is in range if the call that asks for it has its numbers in range: what a layer has checked by the meaning's own test is what memory wants.
-use mathlib.Core.Path.{_≡_}
+use mathlib.Core.Path.{_≡_, sym, ap, subst, _∙_}
 use mathlib.Core.Bool.{true}
-use mathlib.Core.List.{List}
-use Prim.Native.Nat.{ℕ, _<_, _≤_}
+use mathlib.Core.List.{List, [], _∷_}
+use Prim.Native.Nat.{ℕ, zero, suc, _-_, _<_, _≤_}
 use native.Mathlib.Omega.{arith}
-use lib.ListN.{length, getD, take}
-use Rattle.std.proofs.shelf.Lists.{length-take-le}
+use lib.ListN.{length, getD, take, replicate}
+use Rattle.std.proofs.shelf.Lists.{length-take-le, length-append, getD-append-left}
 use Rattle.std.proofs.shelf.Tests.{and-parts, leb-true, ltb-true}
-use Rattle.meaning.specs.Calls.{opens, files, books, good-fields, good-limits, falling, all-to, no-twice}
+use Rattle.meaning.specs.Lines as lines
+use Rattle.meaning.specs.Calls.{opens, files, books, good-fields, good-limits, falling, all-to, all-there, no-twice}
 use Rattle.records.specs.declared.Leg.{Leg}
 use Rattle.records.specs.declared.Fare.{Fare}
 use Rattle.records.specs.declared.Booking.{Booking}
+use Rattle.records.specs.Words.{leg-of, booking-of}
+use Rattle.records.proofs.News.{unpadded}
 use Rattle.store.specs.Range.{Fine-leg, Fine-fare, Fine-booking}
 
 -- good limits: how many, falling, and small
@@ -41,6 +44,11 @@ leg-fine g h e =
       falling = l .2;
       small = l .3;
     }
+
+-- a new leg
+pub new-leg-fine : (a b c d : ℕ) (ls : List ℕ) → good-fields (opens a b c d ls) ≡ true → Fine-leg (leg-of a b c d ls)
+new-leg-fine a b c d ls e =
+    leg-fine (leg-of a b c d ls) (omega (arith, length-append ls (replicate (26 - length ls) 0))) (ap (λ (v : List ℕ). good-fields (opens a b c d v)) (unpadded 26 ls) ∙ e)
 
 -- a fare
 pub fare-fine : (f : Fare) → good-fields (files (f .origin) (f .goal) (f .class) (f .most) (f .price)) ≡ true → Fine-fare f
@@ -82,3 +90,16 @@ booking-fine n b h e t o s =
       apart = o;
       stands = s;
     }
+
+-- legs that are there have numbers below theirs
+pub there-tells : (ls : List lines.Leg) (c : ℕ) (is : List ℕ) → all-there ls c is ≡ true → (x : ℕ) → x < length is → getD is x 0 < length ls
+unfolding all-there
+there-tells ls c [] e x h = absurd (omega arith)
+there-tells ls c (i ∷ is) e zero h = ltb-true _ _ (and-parts _ _ (and-parts _ _ e .0) .0)
+there-tells ls c (i ∷ is) e (suc x) h = there-tells ls c is (and-parts _ _ e .1) x (omega arith)
+
+-- a new booking
+pub new-booking-fine : (ls : List lines.Leg) (c n : ℕ) (is : List ℕ) → good-fields (books c n is) ≡ true → all-there ls c is ≡ true → no-twice is ≡ true → Fine-booking (length ls) (booking-of c n is)
+new-booking-fine ls c n is e t o =
+    booking-fine (length ls) (booking-of c n is) (omega (arith, length-append is (replicate (8 - length is) 0))) (ap (λ (v : List ℕ). good-fields (books c n v)) (unpadded 8 is) ∙ e)
+    (λ x h. subst (λ (v : ℕ). v < length ls) (sym (getD-append-left is (replicate (8 - length is) 0) 0 x h)) (there-tells ls c is t x h)) (ap no-twice (unpadded 8 is) ∙ o) (omega arith)

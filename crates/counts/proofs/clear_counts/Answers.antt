@@ -18,6 +18,6 @@ returns c =
     let l : length (c .copy-from-slice .last .self) ≡ 26 = search needs in
     simp e (record {
       nothing = λ x h. inside (c .args .i * 128 + 31) 26 x _ _ _ (omega arith) (omega arith) (omega arith) ∙ ap (λ (v : List ℕ). getD v x 0) (c .copy-from-slice .ensures .after) ∙ getD-replicate 26 x 0 0 h;
-      others = λ j x ne h. outside (c .args .i * 128 + 31) 26 (j * 128 + 31 + x) _ _ p l (off-others j (c .args .i) x ne h);
+      others = λ j x h f. outside (c .args .i * 128 + 31) 26 (j * 128 + 31 + x) _ _ p l (off-others j (c .args .i) x h f);
       legs = λ j. ap leg-read (beside (c .args .i * 128 + 31) (j * 128) 26 31 _ _ p l (off-counts j (c .args .i)));
     })

@@ -8,24 +8,26 @@ use Rattle.meaning.specs.House.{goes}
 use Rattle.counts.proofs.Journeys.{new-leg, on-none, on-less, on-fresh, on-given}
 use Rattle.counts.proofs.give_all.Needs as need
 
-pub loop-x-holds : need.loop-x-holds
-loop-x-holds c = on-none _ _
+pub loop-y-holds : need.loop-y-holds
+loop-y-holds c = on-none _ _
 
 pub give-on-requires : need.give-on-requires
 give-on-requires c κs =
-    let l : c .loop-x .x < length (c .args .b .now .legs) = omega arith in
-    let f : goes (take (c .loop-x .x) (c .args .b .now .legs)) (getD (c .args .b .now .legs) (c .loop-x .x) 0) ≡ false = new-leg (c .args .b .now .legs) (c .args .b .now .count) (c .loop-x .x) (c .pre .ready .apart) (c .loop-x-test .taken) l in
+    let t : c .loop-y .y < c .args .b .now .count = omega arith in
+    let l : c .loop-y .y < length (c .args .b .now .legs) = omega arith in
+    let f : goes (take (c .loop-y .y) (c .args .b .now .legs)) (getD (c .args .b .now .legs) (c .loop-y .y) 0) ≡ false = new-leg (c .args .b .now .legs) (c .args .b .now .count) (c .loop-y .y) (c .pre .ready .apart) t l in
     record {
-      leg = omega (arith, c .pre .ready .there (c .loop-x .x) (c .loop-x-test .taken));
+      leg = omega (arith, c .pre .ready .there (c .loop-y .y) t);
       class = c .pre .ready .class;
-      taken = λ d h. omega (arith, c .pre .taken (c .loop-x .x) d (c .loop-x-test .taken) h, on-fresh (c .args .b .now) (c .loop-x .x) l f (c .loop-x .legs) (c .args .legs .now) d (c .loop-x .inv) (omega (arith, c .pre .ready .class)));
+      taken = λ d h. omega (arith, c .pre .taken (c .loop-y .y) d t h, on-fresh (c .args .b .now) (c .loop-y .y) l f (c .loop-y .legs) (c .args .legs .now) d (c .loop-y .inv) (omega (arith, c .pre .ready .class)));
     }
 
-pub loop-x-again : need.loop-x-again
-loop-x-again c =
-    let l : c .loop-x .x < length (c .args .b .now .legs) = omega arith in
-    let f : goes (take (c .loop-x .x) (c .args .b .now .legs)) (getD (c .args .b .now .legs) (c .loop-x .x) 0) ≡ false = new-leg (c .args .b .now .legs) (c .args .b .now .count) (c .loop-x .x) (c .pre .ready .apart) (c .loop-x-test .taken) l in
-    on-less (c .args .b .now) (c .loop-x .x) l f (c .args .legs .now) (c .loop-x .legs) _ (c .loop-x .inv) (c .give-on .ensures)
+pub loop-y-again : need.loop-y-again
+loop-y-again c =
+    let t : c .loop-y .y < c .args .b .now .count = omega arith in
+    let l : c .loop-y .y < length (c .args .b .now .legs) = omega arith in
+    let f : goes (take (c .loop-y .y) (c .args .b .now .legs)) (getD (c .args .b .now .legs) (c .loop-y .y) 0) ≡ false = new-leg (c .args .b .now .legs) (c .args .b .now .count) (c .loop-y .y) (c .pre .ready .apart) t l in
+    on-less (c .args .b .now) (c .loop-y .y) l f (c .args .legs .now) (c .loop-y .legs) _ (c .loop-y .inv) (c .give-on .ensures)
 
 pub returns : need.returns
-returns c = let e : c .loop-x .x ≡ c .args .b .now .count = omega arith in on-given (c .args .legs .now) (c .loop-x .legs) (c .args .b .now) (simp e at (c .loop-x .inv))
+returns c = let e : c .loop-y .y ≡ c .args .b .now .count = omega arith in on-given (c .args .legs .now) (c .loop-y .legs) (c .args .b .now) (simp e at (c .loop-y .inv))

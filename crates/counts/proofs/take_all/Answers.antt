@@ -13,18 +13,20 @@ loop-x-holds c = on-none _ _
 
 pub take-on-requires : need.take-on-requires
 take-on-requires c κs =
+    let t : c .loop-x .x < c .args .b .now .count = omega arith in
     let l : c .loop-x .x < length (c .args .b .now .legs) = omega arith in
-    let f : goes (take (c .loop-x .x) (c .args .b .now .legs)) (getD (c .args .b .now .legs) (c .loop-x .x) 0) ≡ false = new-leg (c .args .b .now .legs) (c .args .b .now .count) (c .loop-x .x) (c .pre .ready .apart) (c .loop-x-test .taken) l in
+    let f : goes (take (c .loop-x .x) (c .args .b .now .legs)) (getD (c .args .b .now .legs) (c .loop-x .x) 0) ≡ false = new-leg (c .args .b .now .legs) (c .args .b .now .count) (c .loop-x .x) (c .pre .ready .apart) t l in
     record {
-      leg = omega (arith, c .pre .ready .there (c .loop-x .x) (c .loop-x-test .taken));
+      leg = omega (arith, c .pre .ready .there (c .loop-x .x) t);
       class = c .pre .ready .class;
-      few = λ d h. omega (arith, c .pre .few (c .loop-x .x) d (c .loop-x-test .taken) h, on-fresh (c .args .b .now) (c .loop-x .x) l f (c .args .legs .now) (c .loop-x .legs) d (c .loop-x .inv) (omega (arith, c .pre .ready .class)));
+      few = λ d h. omega (arith, c .pre .few (c .loop-x .x) d t h, on-fresh (c .args .b .now) (c .loop-x .x) l f (c .args .legs .now) (c .loop-x .legs) d (c .loop-x .inv) (omega (arith, c .pre .ready .class)));
     }
 
 pub loop-x-again : need.loop-x-again
 loop-x-again c =
+    let t : c .loop-x .x < c .args .b .now .count = omega arith in
     let l : c .loop-x .x < length (c .args .b .now .legs) = omega arith in
-    let f : goes (take (c .loop-x .x) (c .args .b .now .legs)) (getD (c .args .b .now .legs) (c .loop-x .x) 0) ≡ false = new-leg (c .args .b .now .legs) (c .args .b .now .count) (c .loop-x .x) (c .pre .ready .apart) (c .loop-x-test .taken) l in
+    let f : goes (take (c .loop-x .x) (c .args .b .now .legs)) (getD (c .args .b .now .legs) (c .loop-x .x) 0) ≡ false = new-leg (c .args .b .now .legs) (c .args .b .now .count) (c .loop-x .x) (c .pre .ready .apart) t l in
     on-more (c .args .b .now) (c .loop-x .x) l f (c .args .legs .now) (c .loop-x .legs) _ (c .loop-x .inv) (c .take-on .ensures)
 
 pub returns : need.returns

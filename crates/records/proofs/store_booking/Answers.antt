@@ -1,19 +1,19 @@
 -- the booking is there, and the others are as they were
 use borrow.Author.Needs.{needs}
 use native.Mathlib.Omega.{arith}
-use mathlib.Core.Path.{_≡_, ap, _∙_}
+use mathlib.Core.Path.{_≡_, ap}
 use mathlib.Core.List.{List}
-use Prim.Native.Nat.{ℕ, _+_, _-_, _*_}
+use Prim.Native.Nat.{ℕ}
 use lib.ListN.{length}
 use Rattle.records.specs.Words.{booking-read}
-use Rattle.records.proofs.Parts.{stored, others}
+use Rattle.records.proofs.Parts.{stored, others, spared}
 use Rattle.records.proofs.store_booking.Needs as need
 
 pub returns : need.returns
 returns c =
-    let e : (c .args .k * 22 + 13) - c .args .k * 22 ≡ 13 = omega arith in
     let l : length (c .write-booking .last .w) ≡ 13 = search needs in
-    simp e (record {
-      this = ap (λ (v : List ℕ). booking-read v (c .args .b .now .paid)) (stored 22 13 (c .args .k) _ _ (omega arith) (c .pre) l) ∙ c .write-booking .ensures;
-      others = λ j ne. others 22 13 (c .args .k) _ _ (omega arith) (c .pre) l j ne;
-    })
+    record {
+      this = stored (λ (v : List ℕ). booking-read v (c .args .b .now .paid)) 22 13 (c .args .k) _ _ _ _ (c .args .b .now) (c .write-booking .ensures) (omega arith) (c .pre) l (omega arith) (omega arith);
+      others = λ j ne. others (λ (v : List ℕ). v) 22 13 (c .args .k) _ _ _ _ j ne (omega arith) (c .pre) l (omega arith) (omega arith);
+      spare = λ j x h. spared 22 13 (c .args .k) _ _ _ _ j x h (c .pre) l (omega arith) (omega arith);
+    }

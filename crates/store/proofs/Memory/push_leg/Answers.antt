@@ -28,7 +28,7 @@ returns c =
     let b = c .clear-counts .ensures in
     let e = b .legs (w .opened) ∙ a .this in
     let f : (j : ℕ) → (j ≡ w .opened → ⊥) → leg-in legs j ≡ leg-in (w .legs) j = λ j ne. b .legs j ∙ a .others j ne in
-    let co : (j x : ℕ) → (j ≡ w .opened → ⊥) → x < 26 → count-in legs j x ≡ count-in (w .legs) j x = λ j x ne h. b .others j x ne h ∙ a .beside j x (omega arith) in
+    let co : (j x : ℕ) → (j ≡ w .opened → ⊥) → x < 26 → count-in legs j x ≡ count-in (w .legs) j x = λ j x ne h. b .others j x (omega arith) (λ e. absurd (ne e)) ∙ a .beside j x (omega arith) in
     record {
       house = kept.longer-house w (c .pre .sound) (c .args .g .now) legs (c .pre .fine) e (b .nothing) f co l m;
       sound = kept.longer-sound w (c .pre .sound) (c .args .g .now) legs (c .pre .fine) e (b .nothing) f co l m;
