@@ -1,4 +1,4 @@
--- Counting a booking leg by leg.
+-- Counting a booking leg by leg: what its first legs take, and that no leg is among those before it.
 use mathlib.Core.Path.{_≡_, refl, sym, ap, subst, _∙_}
 use mathlib.Core.Logic.{_⊎_, inl, inr}
 use mathlib.Core.Bool.{Bool, true, false, not, _&&_, _||_}
@@ -98,6 +98,3 @@ on-taken v w b o = record { counts = λ j c h. omega (arith, o .counts j c h); l
 
 pub on-given : (v w : List ℕ) (b : Booking) → On w v b (b .count) → Recounted v w b true false
 on-given v w b o = record { counts = λ j c h. omega (arith, o .counts j c h); legs = λ j. sym (o .legs j) }
-
-pub recounted-none : (v : List ℕ) (b : Booking) (t : Bool) → Recounted v v b t t
-recounted-none v b t = record { counts = λ j c h. refl; legs = λ j. refl }

@@ -1,5 +1,5 @@
 -- Counts of what is taken: one of them set, on one leg in one class more.
-use mathlib.Core.Path.{_≡_, refl, ap, sym, _∙_}
+use mathlib.Core.Path.{_≡_, ap, sym, _∙_}
 use mathlib.Core.Logic.{_⊎_, inl, inr}
 use mathlib.Core.Bool.{Bool, _&&_}
 use mathlib.Core.List.{List}
@@ -27,10 +27,6 @@ part-set a n p x w o = same-lists _ _ (search (needs, places)) (λ k d lt. go k 
 -- a count that is set leaves every leg as it was
 leg-set : (i c x j : ℕ) (w : List ℕ) → c < 97 → leg-in (set w (i * 128 + 31 + c) x) j ≡ leg-in w j
 leg-set i c x j w h = ap leg-read (part-set (j * 128) 31 (i * 128 + 31 + c) x w (behind 128 31 i j c (omega arith)))
-
--- no class yet
-pub shared-none : (v : List ℕ) (i seats : ℕ) → Shared v v i 0 seats
-shared-none v i seats = record { counts = λ j c h. grind (arith, tells); legs = λ j. refl }
 
 -- each leg and class has a word of its own
 other-place : (i m j c : ℕ) → m < 26 → c < 97 → ((i ≡ j → ⊥) ⊎ (c ≡ m → ⊥)) → j * 128 + 31 + c ≡ i * 128 + 31 + m → ⊥

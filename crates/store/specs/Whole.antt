@@ -52,13 +52,15 @@ sizes w = lengths (w .legs) (w .fares) (w .bookings) (w .sums)
 abbrev pub table : {X : Type 0} → (ℕ → X) → ℕ → List X
 table f n = map f (counting 0 n)
 
--- the first n legs, fares and bookings, as the meaning has them
+-- the first n legs, as the meaning has them
 unfoldable pub legs-of : List ℕ → ℕ → List lines.Leg
 legs-of w n = table (λ i. leg-means (leg-in w i)) n
 
+-- the first n fares
 unfoldable pub fares-of : List ℕ → ℕ → List lines.Fare
 fares-of w n = table (λ k. fare-means (fare-in w k)) n
 
+-- the first n bookings, of their words and sums
 unfoldable pub bookings-of : List ℕ → List ℕ → ℕ → List houses.Booking
 bookings-of w s n = table (λ k. booking-means (booking-in w s k)) n
 
@@ -118,13 +120,15 @@ with-legs h ls = record { now = h .now; gap = h .gap; hold-for = h .hold-for; le
 abbrev pub with-fares : House → List lines.Fare → House
 with-fares h fs = record { now = h .now; gap = h .gap; hold-for = h .hold-for; legs = h .legs; fares = fs; bookings = h .bookings }
 
--- the same house with one leg more, one fare more, one booking more, each at the end
+-- the same house with one leg more, at the end
 abbrev pub plus-leg : House → lines.Leg → House
 plus-leg h g = with-legs h (h .legs ++ (g ∷ []))
 
+-- the same house with one fare more, at the end
 abbrev pub plus-fare : House → lines.Fare → House
 plus-fare h f = with-fares h (h .fares ++ (f ∷ []))
 
+-- the same house with one booking more, at the end
 abbrev pub plus-booking : House → houses.Booking → House
 plus-booking h b = with-bookings h (h .bookings ++ (b ∷ []))
 

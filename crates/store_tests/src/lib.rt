@@ -141,7 +141,32 @@ mod tests {
         add_booking(m, 0, 3, &[0, 1])
     }
 
-    // Leg i has these limits, as many as it had.
+    // A fare whose numbers are in range, where there may be one more.
+    fn add_fare(m: &mut Memory, f: &Fare) -> Result<(), Fail>
+        requires sound { ⌜ Sound (now m) ⌝ }
+        requires fine { ⌜ Fine-fare (now f) ⌝ }
+        ensures { λ _. ⌜ Sound (now (m .exit)) ⌝ }
+    {
+        check(m.fare_count() < m.limits().fares as usize)?;
+        m.push_fare(f);
+        Ok(())
+    }
+
+    // Leg i has just these limits.
+    fn limits_are(m: &Memory, i: usize, expected: &[u32]) -> Result<(), Fail>
+        requires { ⌜ Sound (now m) ⌝ }
+    {
+        check(i < m.leg_count())?;
+        check(expected.len() <= 26)?;
+        let g = m.leg(i);
+        check_eq(g.classes as usize, expected.len())?;
+        for c in 0..expected.len() {
+            check_eq(g.limits[c], expected[c])?;
+        }
+        Ok(())
+    }
+
+    // Leg i has these limits from now on, as many as it had.
     fn limit(m: &mut Memory, i: usize, limits: &[u32]) -> Result<(), Fail>
         requires sound { ⌜ Sound (now m) ⌝ }
         requires falling { ⌜ falling (now limits) ≡ true ⌝ }
@@ -223,6 +248,8 @@ mod tests {
         stand(m, 1, 1, 40)?;
         both_are(m, &[2, 2, 0], &[0, 0])?;
         limit(m, 0, &[1, 1, 1])?;
+        limits_are(m, 0, &[1, 1, 1])?;
+        limits_are(m, 1, &[5, 4])?;
         both_are(m, &[2, 2, 0], &[0, 0])?;
         stands_so(m, 0, 3, 0, 160)?;
         stands_so(m, 1, 1, 40, 0)
@@ -292,6 +319,37 @@ mod tests {
             }.misfit(&asked),
             Some(Misfit::Range),
         )
+    }
+
+    // A fare is filed once, since the limits allow one, and asked for by its number.
+    #[test]
+    fn a_fare_is_filed() -> Result<(), Fail> {
+        let mut legs = [0; 256];
+        let mut fares = [0; 24];
+        let mut bookings = [0; 66];
+        let mut sums = [0; 3];
+        let limits = Limits {
+            gap: 10,
+            hold: 20,
+            legs: 2,
+            fares: 1,
+            bookings: 3,
+        };
+        let mut m = open(limits, &mut legs, &mut fares, &mut bookings, &mut sums);
+        let f = Fare {
+            origin: 1,
+            goal: 3,
+            class: 1,
+            most: 2,
+            price: 80,
+        };
+        add_fare(&mut m, &f)?;
+        check(m.fare_count() == 1)?;
+        let g = m.fare(0);
+        check_eq((g.origin, g.goal, g.class), (1, 3, 1))?;
+        check_eq((g.most, g.price), (2, 80))?;
+        check_eq(m.leg_count(), 0)?;
+        check_eq(m.clock(), 0)
     }
 
     // A record that is stored between two others leaves both, and is loaded again.

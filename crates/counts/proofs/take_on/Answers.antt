@@ -1,6 +1,5 @@
 -- turn by turn one class more in which the seats are taken
 use native.Mathlib.Omega.{arith}
-use mathlib.Core.Path.{refl}
 use Rattle.counts.proofs.Shares.{shared-more}
 use Rattle.counts.proofs.take_on.Needs as need
 

@@ -1,9 +1,7 @@
 -- the leg is there, and the other legs and the words behind all legs are as they were
 use borrow.Author.Needs.{needs}
 use native.Mathlib.Omega.{arith}
-use mathlib.Core.Path.{_≡_, ap}
-use mathlib.Core.List.{List}
-use Prim.Native.Nat.{ℕ}
+use mathlib.Core.Path.{_≡_}
 use lib.ListN.{length}
 use Rattle.records.specs.Words.{leg-read}
 use Rattle.records.proofs.Parts.{stored, others, spared}

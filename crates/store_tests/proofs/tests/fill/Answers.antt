@@ -1,11 +1,10 @@
 -- the legs and bookings of the worked example are in range, by the meaning's own test
-use mathlib.Core.Path.{_≡_, refl}
-use mathlib.Core.Bool.{true}
+use mathlib.Core.Path.{refl}
 use mathlib.Core.List.{List, [], _∷_}
 use native.Mathlib.Omega.{arith}
-use Rattle.meaning.specs.Lines.{Leg, no-leg}
+use Rattle.meaning.specs.Lines.{Leg}
 use Rattle.meaning.specs.House.{goes}
-use Rattle.meaning.specs.Calls.{opens, books, good-fields, falling, all-to, all-there, no-twice}
+use Rattle.meaning.specs.Calls.{good-fields, falling, all-to, all-there, no-twice}
 use Rattle.records.specs.Words.{leg-of, booking-of}
 use Rattle.store.specs.Range.{Fine-leg, Fine-booking}
 use Rattle.store.proofs.Ranges.{new-leg-fine, new-booking-fine}
