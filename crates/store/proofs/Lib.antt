@@ -3,5 +3,4 @@ pub mod Takens
 pub mod Lists
 pub mod Kept
 pub mod Lents
-pub mod Openings
 pub mod Ranges

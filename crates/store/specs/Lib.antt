@@ -1,3 +1,2 @@
-pub mod Opening
 pub mod Range
 pub mod Whole

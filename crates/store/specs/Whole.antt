@@ -12,10 +12,10 @@ use Rattle.meaning.specs.Calls.{with-limits}
 use Rattle.records.specs.Words.{leg-in, fare-in, booking-in}
 use Rattle.records.specs.Means.{leg-means, fare-means, booking-means}
 use Rattle.counts.specs.Counts.{count-in}
-use Rattle.store.specs.Opening.{In-range, asks, lengths}
+use Rattle.limits.specs.Opening.{In-range, asks, lengths}
 use Rattle.store.specs.Range.{Fine-leg, Fine-fare, Fine-booking}
-use Rattle.store.specs.declared.opening.Limits.{Limits}
-use Rattle.store.specs.declared.opening.Sizes.{Sizes}
+use Rattle.limits.specs.declared.Limits.{Limits}
+use Rattle.limits.specs.declared.Sizes.{Sizes}
 use Rattle.store.specs.declared.Memory.{Memory}
 
 -- what memory holds: the words and sums, how many legs, fares and bookings there are, the tick it is now, and the limits

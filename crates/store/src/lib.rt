@@ -7,8 +7,6 @@
 //
 // Nothing here goes through all bookings: adding and reading touch a fixed number of words, and a
 // change of how a booking stands at most 8 legs times 26 classes.
-pub mod opening;
-
 ghost use mathlib.Core.Path.{_≡_};
 ghost use mathlib.Core.Bool.{Bool, true};
 ghost use Prim.Native.Nat.{ℕ, _<_, _≤_};
@@ -19,14 +17,14 @@ ghost use Rattle.meaning.specs.Lines.{leg, Fare as MeantFare};
 ghost use Rattle.meaning.specs.House.{stand, taken};
 ghost use Rattle.meaning.specs.Calls.{all-to, falling, new-house, the-booking};
 ghost use Rattle.records.specs.Means.{booking-means, fare-means, leg-means};
-ghost use Rattle.store.specs.Opening.{lengths, limits-mean, misfit-of};
+ghost use Rattle.limits.specs.Opening.{lengths, limits-mean, misfit-of};
 ghost use Rattle.store.specs.Range.{Fine-booking, Fine-fare, Fine-leg};
 ghost use Rattle.store.specs.Whole.{Lent, Sound, at-tick, house, plus-booking, plus-fare, plus-leg, set-booking, set-limits, settled};
 use counts::clear_counts;
 use counts::is_counted;
 use counts::load_count;
 use counts::recount;
-use opening::Limits;
+use limits::Limits;
 use records::Booking;
 use records::Fare;
 use records::Leg;

@@ -61,6 +61,11 @@ pub fn booking_again(bookings: &mut [u32], sums: &mut [u64], k: usize, b: &Booki
 
 #[cfg(test)]
 mod tests {
+    use limits::Limits;
+    use limits::Misfit;
+    use limits::MisfitDebug;
+    use limits::MisfitPartialEq;
+    use limits::Sizes;
     use records::Booking;
     use records::Fare;
     use records::Leg;
@@ -69,11 +74,6 @@ mod tests {
     use std::test::*;
     use store::Memory;
     use store::open;
-    use store::opening::Limits;
-    use store::opening::Misfit;
-    use store::opening::MisfitDebug;
-    use store::opening::MisfitPartialEq;
-    use store::opening::Sizes;
 
     // A leg with these limits, where there may be one more.
     fn add_leg(

@@ -1,9 +1,9 @@
 -- a new house is sound, since there is nothing in it
 use native.Mathlib.Omega.{arith}
 use mathlib.Core.Path.{refl}
-use Rattle.store.specs.Opening.{Enough, lengths}
+use Rattle.limits.specs.Opening.{Enough, lengths}
 use Rattle.store.specs.Whole.{legs-of, fares-of, bookings-of}
-use Rattle.store.proofs.Openings.{enough}
+use Rattle.limits.proofs.Openings.{enough}
 use Rattle.store.proofs.open.Needs as need
 
 pub returns : need.returns

@@ -7,10 +7,10 @@ use Rattle.std.proofs.shelf.Tests.{and-parts, leb-true, ltb-false}
 use Rattle.std.specs.declared.option.Option.{Option}
 use Rattle.std.specs.declared.option.Option.the-variants.{Some, None}
 use Rattle.meaning.specs.Lines.{pick}
-use Rattle.store.specs.Opening.{In-range, in-range, Enough, misfit-of}
-use Rattle.store.specs.declared.opening.Limits.{Limits}
-use Rattle.store.specs.declared.opening.Sizes.{Sizes}
-use Rattle.store.specs.declared.opening.Misfit.{Misfit}
+use Rattle.limits.specs.Opening.{In-range, in-range, Enough, misfit-of}
+use Rattle.limits.specs.declared.Limits.{Limits}
+use Rattle.limits.specs.declared.Sizes.{Sizes}
+use Rattle.limits.specs.declared.Misfit.{Misfit}
 
 -- the test of limits tells what it says
 pub range-tells : (l : Limits) → in-range l ≡ true → In-range l

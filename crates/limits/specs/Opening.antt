@@ -9,10 +9,10 @@ use Rattle.std.specs.declared.option.Option.the-variants.{Some, None}
 use Rattle.meaning.specs.Lines.{pick}
 use Rattle.meaning.specs.Calls as calls
 use Rattle.meaning.specs.Promise.{Good-limits, whole}
-use Rattle.store.specs.declared.opening.Limits.{Limits}
-use Rattle.store.specs.declared.opening.Sizes.{Sizes}
-use Rattle.store.specs.declared.opening.Misfit.{Misfit}
-use Rattle.store.specs.declared.opening.Misfit.the-variants as misfit
+use Rattle.limits.specs.declared.Limits.{Limits}
+use Rattle.limits.specs.declared.Sizes.{Sizes}
+use Rattle.limits.specs.declared.Misfit.{Misfit}
+use Rattle.limits.specs.declared.Misfit.the-variants as misfit
 
 -- the limits of the meaning, at a stage that can do these calls
 abbrev pub limits-mean : (ℕ → Bool) → Limits → calls.Limits

@@ -1,7 +1,10 @@
-// Limits of a house, and the memory that they ask for.
+// Limits of a house, and the memory that they ask for. Whoever opens a house asks `Limits::misfit`
+// first, with the sizes of the slices that it would lend: it tells limits that are out of range, or
+// the first slice that is too small, before any slice is lent, so nothing is written. specs/Opening.antt
+// has what is asked for, and the order in which misfits are told.
 ghost use mathlib.Core.Path.{_≡_};
 ghost use Prim.Native.Nat.{_+_, _*_, _≤_};
-ghost use Rattle.store.specs.Opening.{asks, in-range, misfit-of};
+ghost use Rattle.limits.specs.Opening.{asks, in-range, misfit-of};
 
 // With what a house is opened: the least time between two legs, how long a hold lasts, and how many
 // legs, fares and bookings there may be.
