@@ -42,7 +42,8 @@ module _ (w : Words) (s : Sound-words w) where
   pub ready : (b : Booking) → Fine-booking (w .opened) b → Ready (w .legs) b
   ready b f = record { class = f .class; few = f .few; there = λ x l. omega (arith, f .there x l, s .opened, s .legs-fit); apart = f .apart }
 
-  few-taken : (i c : ℕ) → i < w .opened → c < 26 → count-in (w .legs) i c ≤ 9000000
+  -- at most nine seats for each of a million bookings
+  pub few-taken : (i c : ℕ) → i < w .opened → c < 26 → count-in (w .legs) i c ≤ 9000000
   few-taken i c h l =
       let t = taken-few (bookings-in w) i c (λ k m. subst (λ (b : houses.Booking). b .seats ≤ 9) (sym (at-bookings (w .bookings) (w .sums) (w .booked) k none (omega (arith, many)))) (s .bookings k (omega (arith, many)) .seats)) in
       omega (arith, t, s .counts i c h l, s .booked, s .limits .5, many)

@@ -149,12 +149,14 @@ impl Memory<'_> {
         load_booking(self.bookings, self.sums, k)
     }
 
-    // What is taken on leg i in a class and the cheaper ones: one word is read.
+    // What is taken on leg i in a class and the cheaper ones: one word is read. It is few enough that
+    // a booking's seats can be added.
     pub fn taken(&self, i: usize, class: usize) -> u32
         requires sound { ⌜ Sound (now self) ⌝ }
         requires there { ⌜ i < length (house (now self) .legs) ⌝ }
         requires class { ⌜ class < 26 ⌝ }
-        ensures { λ r. ⌜ r ≡ taken (house (now (self .entry)) .bookings) i class ⌝ }
+        ensures is { λ r. ⌜ r ≡ taken (house (now (self .entry)) .bookings) i class ⌝ }
+        ensures few { λ r. ⌜ r ≤ 9000000 ⌝ }
     {
         load_count(self.legs, i, class)
     }
