@@ -72,7 +72,7 @@ module _ (w : Words) (s : Sound-words w) where
       now-bookings : bookings-in stood ≡ set (bookings-in w) k (booking-means (standing b st u p))
       now-bookings = bookings-set (w .bookings) bookings (w .sums) sums (w .booked) k (standing b st u p) h is f
 
-      pub stood-house : house-of stood ≡ set-booking (house-of w) k (settled (the-booking (house-of w) k) st u p)
+      stood-house : house-of stood ≡ set-booking (house-of w) k (settled (the-booking (house-of w) k) st u p)
       stood-house =
           let q = now-bookings ∙ ap (λ (z : houses.Booking). set (bookings-in w) k (settled z st u p)) e in
           let o = legs-same (w .legs) legs (w .opened) (r .legs) in
@@ -86,7 +86,7 @@ module _ (w : Words) (s : Sound-words w) where
         | inr ne ↦ subst (λ (z : Booking). Fine-booking (w .opened) z) (sym (f j ne)) (s .bookings j l)
       ]
 
-      pub stood-sound : Sound-words stood
+      stood-sound : Sound-words stood
       stood-sound = record {
         limits = s .limits;
         clock = s .clock;
@@ -106,6 +106,9 @@ module _ (w : Words) (s : Sound-words w) where
             omega (arith, a, d, counts-is i c, ap (λ (z : Bool). share b z i c) et, ap (λ (z : Bool). share b z i c) ev, s .counts i c l m, ap (λ (z : List houses.Booking). taken z i c) now-bookings);
       }
 
+      pub stood-kept : (house-of stood ≡ set-booking (house-of w) k (settled (the-booking (house-of w) k) st u p)) × Sound-words stood
+      stood-kept = (stood-house, stood-sound)
+
   -- one booking more
   module _ (b : Booking) (legs bookings sums : List ℕ) (fi : Fine-booking (w .opened) b) (v : Bool) (ev : v ≡ counted (b .stands)) (r : Recounted (w .legs) legs b false v)
       (e : booking-in bookings sums (w .booked) ≡ b) (f : (j : ℕ) → (j ≡ w .booked → ⊥) → booking-in bookings sums j ≡ booking-in (w .bookings) (w .sums) j)
@@ -116,12 +119,12 @@ module _ (w : Words) (s : Sound-words w) where
     more-bookings : bookings-in more ≡ bookings-in w ++ (booking-means b ∷ [])
     more-bookings = bookings-push (w .bookings) bookings (w .sums) sums (w .booked) b e f
 
-    pub more-house : house-of more ≡ plus-booking (house-of w) (booking-means b)
+    more-house : house-of more ≡ plus-booking (house-of w) (booking-means b)
     more-house =
         let o = legs-same (w .legs) legs (w .opened) (r .legs) in
         λ d. record { now = w .clock; gap = w .limits .gap; hold-for = w .limits .hold; legs = o d; fares = fares-of (w .fares) (w .filed); bookings = more-bookings d }
 
-    pub more-sound : Sound-words more
+    more-sound : Sound-words more
     more-sound = record {
       limits = s .limits;
       clock = s .clock;
@@ -144,6 +147,9 @@ module _ (w : Words) (s : Sound-words w) where
           omega (arith, a, d, ap (λ (z : Bool). share b z i c) ev, s .counts i c l n, ap (λ (z : List houses.Booking). taken z i c) more-bookings);
     }
 
+    pub more-kept : (house-of more ≡ plus-booking (house-of w) (booking-means b)) × Sound-words more
+    more-kept = (more-house, more-sound)
+
   -- one leg more
   module _ (g : Leg) (legs : List ℕ) (fi : Fine-leg g) (e : leg-in legs (w .opened) ≡ g) (no : (c : ℕ) → c < 26 → count-in legs (w .opened) c ≡ 0)
       (f : (j : ℕ) → (j ≡ w .opened → ⊥) → leg-in legs j ≡ leg-in (w .legs) j) (co : (j c : ℕ) → (j ≡ w .opened → ⊥) → c < 26 → count-in legs j c ≡ count-in (w .legs) j c)
@@ -151,7 +157,7 @@ module _ (w : Words) (s : Sound-words w) where
     abbrev pub longer : Words
     longer = record { legs = legs; fares = w .fares; bookings = w .bookings; sums = w .sums; opened = w .opened + 1; filed = w .filed; booked = w .booked; clock = w .clock; limits = w .limits }
 
-    pub longer-house : house-of longer ≡ plus-leg (house-of w) (leg-means g)
+    longer-house : house-of longer ≡ plus-leg (house-of w) (leg-means g)
     longer-house = λ d. record { now = w .clock; gap = w .limits .gap; hold-for = w .limits .hold; legs = legs-push (w .legs) legs (w .opened) g e f d; fares = fares-of (w .fares) (w .filed); bookings = bookings-in w }
 
     off-new : (k : ℕ) → k < length (bookings-in w) → goes (at (bookings-in w) k .legs) (w .opened) ≡ false
@@ -163,7 +169,7 @@ module _ (w : Words) (s : Sound-words w) where
         go {x} (inl t) y = let o = goes-tells (x .legs) (x .count) (w .opened) t in absurd (omega (arith, y .there (o .0) (o .1), o .2))
         go {x} (inr t) y = t
 
-    pub longer-sound : Sound-words longer
+    longer-sound : Sound-words longer
     longer-sound = record {
       limits = s .limits;
       clock = s .clock;
@@ -186,18 +192,21 @@ module _ (w : Words) (s : Sound-words w) where
       ];
     }
 
+    pub longer-kept : (house-of longer ≡ plus-leg (house-of w) (leg-means g)) × Sound-words longer
+    longer-kept = (longer-house, longer-sound)
+
   -- another leg in the place of leg i, what is taken as it was
   module _ (i : ℕ) (h : i < w .opened) (g : Leg) (legs : List ℕ) (fi : Fine-leg g) (e : leg-in legs i ≡ g) (f : (j : ℕ) → (j ≡ i → ⊥) → leg-in legs j ≡ leg-in (w .legs) j)
       (co : (j c : ℕ) → c < 26 → count-in legs j c ≡ count-in (w .legs) j c) (ll : length legs ≡ length (w .legs)) where
     abbrev pub limited : Words
     limited = record { legs = legs; fares = w .fares; bookings = w .bookings; sums = w .sums; opened = w .opened; filed = w .filed; booked = w .booked; clock = w .clock; limits = w .limits }
 
-    pub limited-house : (ls : List ℕ) → leg-means g ≡ with-limits (lines.leg (house-of w .legs) i) ls → house-of limited ≡ set-limits (house-of w) i ls
+    limited-house : (ls : List ℕ) → leg-means g ≡ with-limits (lines.leg (house-of w .legs) i) ls → house-of limited ≡ set-limits (house-of w) i ls
     limited-house ls m =
         let q = legs-set (w .legs) legs (w .opened) i g h e f ∙ ap (λ (z : lines.Leg). set (legs-of (w .legs) (w .opened)) i z) m in
         λ d. record { now = w .clock; gap = w .limits .gap; hold-for = w .limits .hold; legs = q d; fares = fares-of (w .fares) (w .filed); bookings = bookings-in w }
 
-    pub limited-sound : Sound-words limited
+    limited-sound : Sound-words limited
     limited-sound = record {
       limits = s .limits;
       clock = s .clock;
@@ -217,16 +226,19 @@ module _ (w : Words) (s : Sound-words w) where
       counts = λ j c l n. co j c n ∙ s .counts j c l n;
     }
 
+    pub limited-kept : (ls : List ℕ) → leg-means g ≡ with-limits (lines.leg (house-of w .legs) i) ls → (house-of limited ≡ set-limits (house-of w) i ls) × Sound-words limited
+    limited-kept ls m = (limited-house ls m, limited-sound)
+
   -- one fare more
   module _ (g : Fare) (fares : List ℕ) (fi : Fine-fare g) (e : fare-in fares (w .filed) ≡ g) (f : (j : ℕ) → (j ≡ w .filed → ⊥) → fare-in fares j ≡ fare-in (w .fares) j)
       (lf : length fares ≡ length (w .fares)) (m : w .filed < w .limits .fares) where
     abbrev pub filed-more : Words
     filed-more = record { legs = w .legs; fares = fares; bookings = w .bookings; sums = w .sums; opened = w .opened; filed = w .filed + 1; booked = w .booked; clock = w .clock; limits = w .limits }
 
-    pub filed-more-house : house-of filed-more ≡ plus-fare (house-of w) (fare-means g)
+    filed-more-house : house-of filed-more ≡ plus-fare (house-of w) (fare-means g)
     filed-more-house = λ d. record { now = w .clock; gap = w .limits .gap; hold-for = w .limits .hold; legs = legs-of (w .legs) (w .opened); fares = fares-push (w .fares) fares (w .filed) g e f d; bookings = bookings-in w }
 
-    pub filed-more-sound : Sound-words filed-more
+    filed-more-sound : Sound-words filed-more
     filed-more-sound = record {
       limits = s .limits;
       clock = s .clock;
@@ -245,3 +257,6 @@ module _ (w : Words) (s : Sound-words w) where
       bookings = s .bookings;
       counts = s .counts;
     }
+
+    pub filed-more-kept : (house-of filed-more ≡ plus-fare (house-of w) (fare-means g)) × Sound-words filed-more
+    filed-more-kept = (filed-more-house, filed-more-sound)

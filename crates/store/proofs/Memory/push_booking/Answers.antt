@@ -38,8 +38,9 @@ returns c =
     let e = c .store-booking .ensures in
     let this = summed (w .bookings) (c .store-booking .last .bookings) (w .sums) (w .booked) paid (c .args .b .now) n (e .this) in
     let rest = unsummed (w .bookings) (c .store-booking .last .bookings) (w .sums) (w .booked) paid (e .others) in
+    let kept-both = kept.more-kept w (c .pre .sound) (c .args .b .now) (c .recount .last .legs) (c .store-booking .last .bookings) sums f (c .is-counted-is .result) (c .is-counted-is .ensures) (c .recount .ensures) this rest ll lb ls m in
     record {
-      house = kept.more-house w (c .pre .sound) (c .args .b .now) (c .recount .last .legs) (c .store-booking .last .bookings) sums f (c .is-counted-is .result) (c .is-counted-is .ensures) (c .recount .ensures) this rest ll lb ls m;
-      sound = kept.more-sound w (c .pre .sound) (c .args .b .now) (c .recount .last .legs) (c .store-booking .last .bookings) sums f (c .is-counted-is .result) (c .is-counted-is .ensures) (c .recount .ensures) this rest ll lb ls m;
+      house = kept-both .0;
+      sound = kept-both .1;
       lent = record { legs = refl; fares = refl; bookings = refl; sums = refl; sizes = λ d. record { legs = ll d; fares = length (w .fares); bookings = lb d; sums = ls d }; limits = refl };
     }

@@ -18,8 +18,9 @@ returns c =
     let m : w .filed < w .limits .fares = omega (arith, c .pre .space, length-fares (w .fares) (w .filed)) in
     let l : length (c .store-fare .last .fares) ≡ length (w .fares) = search needs in
     let e = c .store-fare .ensures in
+    let kept-both = kept.filed-more-kept w (c .pre .sound) (c .args .f .now) (c .store-fare .last .fares) (c .pre .fine) (e .this) (e .others) l m in
     record {
-      house = kept.filed-more-house w (c .pre .sound) (c .args .f .now) (c .store-fare .last .fares) (c .pre .fine) (e .this) (e .others) l m;
-      sound = kept.filed-more-sound w (c .pre .sound) (c .args .f .now) (c .store-fare .last .fares) (c .pre .fine) (e .this) (e .others) l m;
+      house = kept-both .0;
+      sound = kept-both .1;
       lent = record { legs = refl; fares = refl; bookings = refl; sums = refl; sizes = λ d. record { legs = length (w .legs); fares = l d; bookings = length (w .bookings); sums = length (w .sums) }; limits = refl };
     }

@@ -29,8 +29,9 @@ returns c =
     let e = b .legs (w .opened) ∙ a .this in
     let f : (j : ℕ) → (j ≡ w .opened → ⊥) → leg-in legs j ≡ leg-in (w .legs) j = λ j ne. b .legs j ∙ a .others j ne in
     let co : (j x : ℕ) → (j ≡ w .opened → ⊥) → x < 26 → count-in legs j x ≡ count-in (w .legs) j x = λ j x ne h. b .others j x (omega arith) (λ e. absurd (ne e)) ∙ a .beside j x (omega arith) in
+    let kept-both = kept.longer-kept w (c .pre .sound) (c .args .g .now) legs (c .pre .fine) e (b .nothing) f co l m in
     record {
-      house = kept.longer-house w (c .pre .sound) (c .args .g .now) legs (c .pre .fine) e (b .nothing) f co l m;
-      sound = kept.longer-sound w (c .pre .sound) (c .args .g .now) legs (c .pre .fine) e (b .nothing) f co l m;
+      house = kept-both .0;
+      sound = kept-both .1;
       lent = record { legs = refl; fares = refl; bookings = refl; sums = refl; sizes = λ d. record { legs = l d; fares = length (w .fares); bookings = length (w .bookings); sums = length (w .sums) }; limits = refl };
     }

@@ -59,8 +59,9 @@ returns c =
     let a = c .store-leg .ensures in
     let f = other-fine g xs ys n e k (c .leg-g .ensures .fine) (c .pre .falling) (c .pre .small) in
     let co : (j x : ℕ) → x < 26 → count-in (c .store-leg .last .legs) j x ≡ count-in (w .legs) j x = λ j x m. a .beside j x (omega arith) in
+    let kept-both = kept.limited-kept w (c .pre .sound) (c .args .i) h (other g xs ys n e k) (c .store-leg .last .legs) f (a .this) (a .others) co l xs (other-means g xs ys n e k _ (c .leg-g .ensures .means)) in
     record {
-      house = kept.limited-house w (c .pre .sound) (c .args .i) h (other g xs ys n e k) (c .store-leg .last .legs) f (a .this) (a .others) co l xs (other-means g xs ys n e k _ (c .leg-g .ensures .means));
-      sound = kept.limited-sound w (c .pre .sound) (c .args .i) h (other g xs ys n e k) (c .store-leg .last .legs) f (a .this) (a .others) co l;
+      house = kept-both .0;
+      sound = kept-both .1;
       lent = record { legs = refl; fares = refl; bookings = refl; sums = refl; sizes = λ d. record { legs = l d; fares = length (w .fares); bookings = length (w .bookings); sums = length (w .sums) }; limits = refl };
     }

@@ -52,8 +52,9 @@ returns c =
     let e = c .store-booking .ensures in
     let this = summed (w .bookings) (c .store-booking .last .bookings) (w .sums) (c .args .k) (c .args .paid) (kept.standing b (c .args .stands) (c .args .until) (c .args .paid)) n (e .this) in
     let rest = unsummed (w .bookings) (c .store-booking .last .bookings) (w .sums) (c .args .k) (c .args .paid) (e .others) in
+    let kept-both = kept.stood-kept w (c .pre .sound) (c .args .k) h b f (c .booking-b .ensures .means) (c .args .stands) (c .args .until) (c .args .paid) (c .recount .last .legs) (c .store-booking .last .bookings) sums (c .is-counted-was .result) (c .is-counted-is .result) et ev (c .recount .ensures) this rest ll lb ls (c .pre .stands) in
     record {
-      house = kept.stood-house w (c .pre .sound) (c .args .k) h b f (c .booking-b .ensures .means) (c .args .stands) (c .args .until) (c .args .paid) (c .recount .last .legs) (c .store-booking .last .bookings) sums (c .is-counted-was .result) (c .is-counted-is .result) et ev (c .recount .ensures) this rest ll lb ls (c .pre .stands);
-      sound = kept.stood-sound w (c .pre .sound) (c .args .k) h b f (c .booking-b .ensures .means) (c .args .stands) (c .args .until) (c .args .paid) (c .recount .last .legs) (c .store-booking .last .bookings) sums (c .is-counted-was .result) (c .is-counted-is .result) et ev (c .recount .ensures) this rest ll lb ls (c .pre .stands);
+      house = kept-both .0;
+      sound = kept-both .1;
       lent = record { legs = refl; fares = refl; bookings = refl; sums = refl; sizes = λ d. record { legs = ll d; fares = length (w .fares); bookings = lb d; sums = ls d }; limits = refl };
     }
