@@ -2,7 +2,7 @@
 use mathlib.Core.Path.{_≡_, refl, sym, ap, ap₂, _∙_}
 use mathlib.Core.Bool.{Bool, true, false}
 use mathlib.Core.List.{List, [], _∷_, _++_, append-assoc, append-nil}
-use Prim.Native.Nat.{ℕ, zero, suc, _^_, _≤_, _<_}
+use Prim.Native.Nat.{ℕ, zero, suc, _+_, _-_, _^_, _≤_, _<_}
 use native.Mathlib.Omega.{arith}
 use lib.Dec.{eqb}
 use lib.ListN.{length, take, drop, length-append}
@@ -13,8 +13,9 @@ use Rattle.std.proofs.shelf.Tests.{and-parts, and-from, leb-true, le-leb, ltb-t
 use Rattle.std.proofs.shelf.Ways.{tells}
 use Rattle.std.specs.Written.{decimal}
 use Rattle.meaning.specs.Lines.{pick}
-use Rattle.meaning.specs.Promise.{all-fields}
-use Rattle.scan.specs.Words.{Read, got, and-then, onto, is-kind, front, next-word, value-on, number-in, word-in, past-word, numbers-in, list-in, spaced}
+use Rattle.meaning.specs.Promise.{field, all-fields}
+use Rattle.scan.specs.Words.{Read, got, bad, and-then, onto, is-kind, front, next-word, value-on, number-in, word-in, past-word, numbers-in, list-in, spaced}
+use Rattle.scan.proofs.Readings.{onto-none, onto-onto}
 use Rattle.scan.specs.declared.Kind.{Kind}
 use Rattle.scan.specs.declared.Kind.the-variants as kind
 
@@ -100,6 +101,30 @@ number-back n rest h z =
     let l = decimal-some n b in
     rw (here, f, t, s, v, z) (grind (arith, tells))
 
+-- a number that four bytes can't hold does not fit at its first digit
+pub number-too-large : (n : ℕ) (rest : List ℕ) → 4294967296 ≤ n → n < 2 ^ 64 → front kind.Digit rest ≡ 0 → number-in ((32 ∷ decimal n) ++ rest) ≡ bad (length (decimal n ++ rest))
+number-too-large n rest h b z =
+    let f = front-each kind.Digit (decimal n) rest (digits-decimal own n b) z in
+    let here = number-first n rest b in
+    let t = take-at (decimal n) rest (length (decimal n)) refl in
+    let v = value-decimal own n b in
+    let l = decimal-some n b in
+    rw (here, f, t, v) (grind (arith, tells))
+
+-- where the line ends, no number is
+pub no-number : number-in [] ≡ bad 0
+unfolding front
+no-number = refl
+
+pub front-le : (k : Kind) (xs : List ℕ) → front k xs ≤ length xs
+unfolding front
+front-le k [] = omega arith
+front-le k (x ∷ xs) = go (is-kind k x) (front-le k xs)
+  where
+    go : (t : Bool) → front k xs ≤ length xs → pick t (suc (front k xs)) 0 ≤ suc (length xs)
+    go true h = omega arith
+    go false h = omega arith
+
 -- behind printed numbers, and before the next ones, a word ends
 pub spaced-ends : (ns rest : List ℕ) → front kind.Letter rest ≡ 0 → front kind.Letter (spaced ns ++ rest) ≡ 0
 unfolding spaced front
@@ -109,15 +134,32 @@ spaced-ends (n ∷ ns) rest z = refl
 pub spaced-ends-line : (ns : List ℕ) → front kind.Letter (spaced ns) ≡ 0
 spaced-ends-line ns = ap (front kind.Letter) (sym (append-nil (spaced ns))) ∙ spaced-ends ns [] (no-front kind.Letter)
 
-pub numbers-back : (ns rest : List ℕ) → all-fields ns ≡ true → front kind.Letter rest ≡ 0 → numbers-in (length ns) (spaced ns ++ rest) ≡ got ns rest
+-- printed numbers are read back, and reading goes on behind them
+pub numbers-on : (m : ℕ) (ns rest : List ℕ) → all-fields ns ≡ true → front kind.Letter rest ≡ 0 → numbers-in (length ns + m) (spaced ns ++ rest) ≡ onto ns (numbers-in m rest)
 unfolding numbers-in spaced all-fields
-numbers-back [] rest e z = refl
-numbers-back (n ∷ ns) rest e z =
-    let p = and-parts _ _ e in
-    let i = number-back n (spaced ns ++ rest) (ltb-true _ _ (p .0)) (spaced-ends ns rest z) in
-    ap (λ bs. and-then (number-in bs) (λ v end. onto (v ∷ []) (numbers-in (length ns) end))) (append-assoc (32 ∷ decimal n) (spaced ns) rest)
-    ∙ ap (λ r. and-then r (λ v end. onto (v ∷ []) (numbers-in (length ns) end))) i
-    ∙ ap (onto (n ∷ [])) (numbers-back ns rest (p .1) z)
+numbers-on m [] rest e z = ap (λ k. numbers-in k rest) (omega arith) ∙ sym (onto-none (numbers-in m rest))
+numbers-on m (n ∷ ns) rest e z =
+    let p = and-parts (field n) (all-fields ns) e in
+    let i = number-back n (spaced ns ++ rest) (ltb-true n 4294967296 (p .0)) (spaced-ends ns rest z) in
+    let k : suc (length ns) + m ≡ suc (length ns + m) = omega arith in
+    ap (λ h. numbers-in h (spaced (n ∷ ns) ++ rest)) k
+    ∙ ap (λ bs. and-then (number-in bs) (λ v end. onto (v ∷ []) (numbers-in (length ns + m) end))) (append-assoc (32 ∷ decimal n) (spaced ns) rest)
+    ∙ ap (λ r. and-then r (λ v end. onto (v ∷ []) (numbers-in (length ns + m) end))) i
+    ∙ ap (onto (n ∷ [])) (numbers-on m ns rest (p .1) z)
+    ∙ onto-onto (n ∷ []) ns (numbers-in m rest)
+
+pub numbers-back : (ns rest : List ℕ) → all-fields ns ≡ true → front kind.Letter rest ≡ 0 → numbers-in (length ns) (spaced ns ++ rest) ≡ got ns rest
+unfolding numbers-in
+numbers-back ns rest e z = ap (λ k. numbers-in k (spaced ns ++ rest)) (omega arith) ∙ numbers-on 0 ns rest e z ∙ ap (λ l. got l rest) (append-nil ns)
+
+-- a number too few: what stands there does not fit, and neither do the numbers
+pub numbers-ceased : (m left : ℕ) (ns rest : List ℕ) → length ns < m → all-fields ns ≡ true → front kind.Letter rest ≡ 0 → number-in rest ≡ bad left → numbers-in m (spaced ns ++ rest) ≡ bad left
+unfolding numbers-in
+numbers-ceased m left ns rest h e z f =
+    let k : m ≡ length ns + suc (m - suc (length ns)) = omega arith in
+    ap (λ j. numbers-in j (spaced ns ++ rest)) k
+    ∙ numbers-on (suc (m - suc (length ns))) ns rest e z
+    ∙ ap (λ r. onto ns (and-then r (λ v end. onto (v ∷ []) (numbers-in (m - suc (length ns)) end)))) f
 
 -- a number is there
 some-number : (n : ℕ) (rest : List ℕ) → n < 4294967296 → eqb (length (next-word ((32 ∷ decimal n) ++ rest))) 0 ≡ false

@@ -9,7 +9,7 @@ use lib.ListN.{length}
 use Rattle.meaning.specs.Lines.{pick}
 use Rattle.scan.specs.Words.{Read, got, bad, and-then, onto, next-word, number-in, numbers-in, list-in}
 
-onto-onto : (us vs : List ℕ) (r : Read (List ℕ)) → onto us (onto vs r) ≡ onto (us ++ vs) r
+pub onto-onto : (us vs : List ℕ) (r : Read (List ℕ)) → onto us (onto vs r) ≡ onto (us ++ vs) r
 onto-onto us vs (got ws rest) = ap (λ l. got l rest) (sym (append-assoc us vs ws))
 onto-onto us vs (bad left) = refl
 

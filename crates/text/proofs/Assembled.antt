@@ -44,7 +44,7 @@ pub numbers-stop : (k left : ℕ) (bs : List ℕ) → numbers-in (field-count k)
 unfolding rest-in
 numbers-stop k left bs e = ap (λ r. and-then r (λ fs rest. and-then (listing-in k rest) (λ list end. got (made k fs list) end))) e
 
-numbers-go : (k : ℕ) (bs fs rest : List ℕ) → numbers-in (field-count k) bs ≡ got fs rest → rest-in k bs ≡ and-then (listing-in k rest) (λ list end. got (made k fs list) end)
+pub numbers-go : (k : ℕ) (bs fs rest : List ℕ) → numbers-in (field-count k) bs ≡ got fs rest → rest-in k bs ≡ and-then (listing-in k rest) (λ list end. got (made k fs list) end)
 unfolding rest-in
 numbers-go k bs fs rest e = ap (λ r. and-then r (λ fs rest. and-then (listing-in k rest) (λ list end. got (made k fs list) end))) e
 

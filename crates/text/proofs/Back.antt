@@ -25,12 +25,12 @@ use Rattle.text.proofs.Listings.{behind-word, at-end}
 use Rattle.text.proofs.Verbs.{known-word}
 
 -- the words of lines: each is found where it stands, and is a word
-record Verb (k : ℕ) : Type 0 where
-  found : place-among (getD verbs k []) verbs ≡ k
-  some : 0 < length (getD verbs k [])
-  whole : Each kind.Letter (getD verbs k [])
+pub record Verb (k : ℕ) : Type 0 where
+  pub found : place-among (getD verbs k []) verbs ≡ k
+  pub some : 0 < length (getD verbs k [])
+  pub whole : Each kind.Letter (getD verbs k [])
 
-verb-is : (k : ℕ) → k ≤ 10 → Verb k
+pub verb-is : (k : ℕ) → k ≤ 10 → Verb k
 unfolding place-among
 verb-is =
     each-call Verb

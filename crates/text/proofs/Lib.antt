@@ -5,3 +5,4 @@ pub mod Back
 pub mod Spaced
 pub mod Printed
 pub mod Opens
+pub mod Wrong

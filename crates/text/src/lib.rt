@@ -6,6 +6,7 @@ ghost use Rattle.std.specs.shelf.Text.{sameBytes};
 ghost use Rattle.std.specs.declared.option.Option.the-variants.{Some, None};
 ghost use Rattle.scan.specs.Told.{List-told};
 ghost use Rattle.text.specs.CallLines.{Reads-back, call-in, joint, line-call, listing-in, place-among, rest-in, verbs};
+ghost use Rattle.text.specs.Places.{Places-told};
 ghost use Rattle.text.specs.Told.{Line-told, Rest-told};
 use protocol::Call;
 use protocol::field_count;
@@ -152,4 +153,10 @@ pub fn read_call(heap: Global, line: &[u8]) -> Result<CallLine, NoCall>
 // that call back: a theorem over the definitions that the contracts of reading and printing cite.
 pub fn reads_back()
     ensures { λ _. ⌜ Reads-back ⌝ }
+{}
+
+// An unknown word, a line that is too short or too long and a number that is too large are each
+// refused at their place: a theorem over the same definitions.
+pub fn places_told()
+    ensures { λ _. ⌜ Places-told ⌝ }
 {}
