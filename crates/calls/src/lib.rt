@@ -1,0 +1,86 @@
+// Each call on memory. The checks stand in the order of the list of refusals, each handing its value
+// on or returning the refusal; the first that applies decides, and nothing is changed then.
+// specs/Replies.antt says what it means that a call is done as the meaning says (`Meant`).
+ghost use mathlib.Core.Path.{_≡_};
+ghost use mathlib.Core.List.{[]};
+ghost use Prim.Native.Nat.{_<_, _≤_};
+ghost use Rattle.meaning.specs.Calls.{booking, files, leg-is, opens};
+ghost use Rattle.protocol.specs.Forms.{answer-of};
+ghost use Rattle.store.specs.Whole.{Lent, Sound, house};
+ghost use Rattle.wire.specs.Bytes.{numbers-in};
+ghost use Rattle.calls.specs.Replies.{Meant, Next-number, fare-fits, leg-fits};
+use checks::read_limits;
+use protocol::Answer;
+use records::Fare;
+use records::Leg;
+use store::Memory;
+
+// What is out of range, or can't be done at this stage.
+const OUT_OF_RANGE: Answer = Answer::Refused { refusal: 2, place: 0 };
+
+// The number of one record more; none where the limit is reached.
+fn next_number(count: usize, most: u32) -> Option<usize>
+    ensures { λ r. ⌜ Next-number count most r ⌝ }
+{
+    if count < most as usize {
+        Some(count)
+    } else {
+        None
+    }
+}
+
+// Are a leg's places and ticks in range.
+fn leg_in_range(from: u32, to: u32, leaves: u32, arrives: u32) -> bool
+    ensures { λ r. ⌜ r ≡ leg-fits from to leaves arrives ⌝ }
+{
+    (from < 65_536 && to < 65_536) && (leaves < arrives && arrives < 16_777_216)
+}
+
+// Opens a leg.
+pub fn open_leg(m: &mut Memory, from: u32, to: u32, leaves: u32, arrives: u32, part: &[u8]) -> Answer
+    requires { ⌜ Sound (now m) ⌝ }
+    ensures meant { λ r. ⌜ Meant (now (m .entry) .limits) (house (now (m .entry))) (opens from to leaves arrives (numbers-in (now (part .entry)))) (answer-of r []) (house (now (m .exit))) ⌝ }
+    ensures sound { λ _. ⌜ Sound (now (m .exit)) ⌝ }
+    ensures lent { λ _. ⌜ Lent (now (m .entry)) (now (m .exit)) ⌝ }
+{
+    if !leg_in_range(from, to, leaves, arrives) {
+        return OUT_OF_RANGE;
+    }
+    let Some(row) = read_limits(part) else {
+        return OUT_OF_RANGE;
+    };
+    if leaves <= m.clock() {
+        return Answer::Refused { refusal: 5, place: 2 };
+    }
+    let Some(number) = next_number(m.leg_count(), m.limits().legs) else {
+        return Answer::Refused { refusal: 9, place: 0 };
+    };
+    let leg = Leg::new(from, to, leaves, arrives, &row.limits[0..row.count]);
+    m.push_leg(&leg);
+    Answer::Number { value: number as u64 }
+}
+
+// Are a fare's numbers in range.
+fn fare_in_range(fare: &Fare) -> bool
+    ensures { λ r. ⌜ r ≡ fare-fits (now (fare .entry) .origin) (now (fare .entry) .goal) (now (fare .entry) .class) (now (fare .entry) .most) (now (fare .entry) .price) ⌝ }
+{
+    (fare.origin < 65_536 && fare.goal < 65_536)
+        && ((fare.class < 26 && (1 <= fare.most && fare.most <= 8)) && fare.price <= 100_000_000)
+}
+
+// Files a fare.
+pub fn file_fare(m: &mut Memory, fare: &Fare) -> Answer
+    requires { ⌜ Sound (now m) ⌝ }
+    ensures meant { λ r. ⌜ Meant (now (m .entry) .limits) (house (now (m .entry))) (files (now (fare .entry) .origin) (now (fare .entry) .goal) (now (fare .entry) .class) (now (fare .entry) .most) (now (fare .entry) .price)) (answer-of r []) (house (now (m .exit))) ⌝ }
+    ensures sound { λ _. ⌜ Sound (now (m .exit)) ⌝ }
+    ensures lent { λ _. ⌜ Lent (now (m .entry)) (now (m .exit)) ⌝ }
+{
+    if !fare_in_range(fare) {
+        return OUT_OF_RANGE;
+    }
+    let Some(number) = next_number(m.fare_count(), m.limits().fares) else {
+        return Answer::Refused { refusal: 9, place: 0 };
+    };
+    m.push_fare(fare);
+    Answer::Number { value: number as u64 }
+}
