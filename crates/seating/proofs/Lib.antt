@@ -1,0 +1,4 @@
+pub mod Rooms
+pub mod Frees
+pub mod Turns
+pub mod Newest

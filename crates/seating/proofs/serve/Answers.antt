@@ -1,0 +1,24 @@
+-- turn by turn what is left to serve is the same, and at the end nobody is
+use native.Mathlib.Omega.{arith}
+use mathlib.Core.Path.{ap}
+use Rattle.meaning.specs.House.{House}
+use Rattle.store.specs.Whole.{house}
+use Rattle.seating.specs.Serving.{waiting}
+use Rattle.seating.proofs.Turns.{way-on, way-ends, fewer-wait}
+use Rattle.seating.proofs.serve.Needs as need
+
+pub loop-k-less : need.loop-k-less
+loop-k-less c =
+    omega (arith, ap (λ (g : House). waiting (g .bookings)) (c .set-stand .ensures .house), fewer-wait (house (c .loop-k .memory)) (c .in-Some .k) (c .args .until) (c .in-Some .ensures tt .first))
+
+pub loop-k-again : need.loop-k-again
+loop-k-again c =
+    way-on (c .args .memory .now) (c .loop-k .memory) (c .set-stand .last .self) (c .args .until) (c .in-Some .k) (c .loop-k .inv) (c .in-Some .ensures tt .first)
+    (c .set-stand .ensures .house) (c .set-stand .ensures .sound) (c .set-stand .ensures .lent)
+
+pub returns : need.returns
+returns c = record {
+  house = way-ends (c .args .memory .now) (c .loop-k .memory) (c .args .until) (c .loop-k .inv) (c .in-rest .ensures tt .first);
+  sound = c .loop-k .inv .sound;
+  lent = c .loop-k .inv .lent;
+}
