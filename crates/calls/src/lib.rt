@@ -1,18 +1,27 @@
 // Each call on memory. The checks stand in the order of the list of refusals, each handing its value
 // on or returning the refusal; the first that applies decides, and nothing is changed then.
-// specs/Replies.antt says what it means that a call is done as the meaning says (`Meant`).
+// `Meant`, of the crate `checks`, is what it means that a call is done as the meaning says.
 ghost use mathlib.Core.Path.{_≡_};
+ghost use mathlib.Core.Bool.{true, false};
 ghost use mathlib.Core.List.{[]};
 ghost use Prim.Native.Nat.{_<_, _≤_};
-ghost use Rattle.meaning.specs.Calls.{booking, files, leg-is, opens};
+ghost use Rattle.meaning.specs.Calls.{books, files, good-fields, opens};
+ghost use Rattle.meaning.specs.Statements.{some-could};
 ghost use Rattle.protocol.specs.Forms.{answer-of};
 ghost use Rattle.store.specs.Whole.{Lent, Sound, house};
 ghost use Rattle.wire.specs.Bytes.{numbers-in};
-ghost use Rattle.calls.specs.Replies.{Meant, Next-number, fare-fits, leg-fits};
+ghost use Rattle.checks.specs.Meant.{Meant};
+ghost use Rattle.calls.specs.Ranges.{Next-number, fare-fits, leg-fits};
+use checks::are_apart;
+use checks::are_there;
+use checks::connect;
 use checks::read_limits;
+use pricing::price;
 use protocol::Answer;
+use records::Booking;
 use records::Fare;
 use records::Leg;
+use seating::serve_newest;
 use store::Memory;
 
 // What is out of range, or can't be done at this stage.
@@ -83,4 +92,38 @@ pub fn file_fare(m: &mut Memory, fare: &Fare) -> Answer
     };
     m.push_fare(fare);
     Answer::Number { value: number as u64 }
+}
+
+// Books so many seats in a class on these legs. Nobody waits for what is free, so the new booking is
+// the only one that can be served now.
+fn book_on(m: &mut Memory, class: u32, seats: u32, legs: &[u32]) -> Answer
+    requires sound { ⌜ Sound (now m) ⌝ }
+    requires idle { ⌜ some-could (house (now m)) (house (now m) .bookings) ≡ false ⌝ }
+    requires asks { ⌜ good-fields (books class seats (now legs)) ≡ true ⌝ }
+    ensures meant { λ r. ⌜ Meant (now (m .entry) .limits) (house (now (m .entry))) (books class seats (now (legs .entry))) (answer-of r []) (house (now (m .exit))) ⌝ }
+    ensures sound { λ _. ⌜ Sound (now (m .exit)) ⌝ }
+    ensures lent { λ _. ⌜ Lent (now (m .entry)) (now (m .exit)) ⌝ }
+{
+    if !are_there(m, class, legs) {
+        return Answer::Refused { refusal: 4, place: 2 };
+    }
+    if !connect(m, legs) {
+        return Answer::Refused { refusal: 5, place: 2 };
+    }
+    if !are_apart(legs) {
+        return Answer::Refused { refusal: 5, place: 2 };
+    }
+    if m.leg(legs[0] as usize).leaves <= m.clock() {
+        return Answer::Refused { refusal: 5, place: 2 };
+    }
+    let Some(_) = price(m, class, legs) else {
+        return Answer::Refused { refusal: 6, place: 2 };
+    };
+    let Some(number) = next_number(m.booking_count(), m.limits().bookings) else {
+        return Answer::Refused { refusal: 9, place: 0 };
+    };
+    let until = m.clock() + m.limits().hold;
+    m.push_booking(&Booking::new(class, seats, legs));
+    let held = serve_newest(m, until);
+    Answer::Booked { booking: number as u64, stands: u64::from(held) }
 }

@@ -13,7 +13,7 @@ use Rattle.records.specs.declared.Fare.{Fare}
 use Rattle.store.specs.Whole.{house}
 use Rattle.store.proofs.Lents.{lent-none}
 use Rattle.store.proofs.Ranges.{fare-fine}
-use Rattle.calls.proofs.Verdicts.{out-of-range, refuses, takes}
+use Rattle.checks.proofs.Verdicts.{out-of-range, refuses, takes}
 use Rattle.calls.proofs.file_fare.Needs as need
 
 abbrev call : Fare → Call

@@ -19,8 +19,9 @@ use Rattle.store.specs.Range.{Fine-leg}
 use Rattle.store.proofs.Lents.{lent-none}
 use Rattle.store.proofs.Ranges.{new-leg-fine}
 use Rattle.wire.specs.Bytes.{numbers-in}
-use Rattle.calls.specs.Replies.{leg-fits}
-use Rattle.calls.proofs.Verdicts.{out-of-range, refuses, takes, opens-range}
+use Rattle.calls.specs.Ranges.{leg-fits}
+use Rattle.checks.proofs.Verdicts.{out-of-range, refuses, takes}
+use Rattle.calls.proofs.Opened.{opens-range}
 use Rattle.calls.proofs.open_leg.Needs as need
 
 pub returns-then-not-leg-in-range : need.returns-then-not-leg-in-range

@@ -11,7 +11,7 @@ use Rattle.meaning.specs.House.{House}
 use Rattle.meaning.specs.Calls.{Call, opens, Answer, refused, call-number, good-fields, good-limits, good-call, turned-by, turned, place, changed, told}
 use Rattle.limits.specs.Opening.{limits-mean}
 use Rattle.limits.specs.declared.Limits.{Limits}
-use Rattle.calls.specs.Replies.{Meant, leg-fits}
+use Rattle.checks.specs.Meant.{Meant}
 
 module _ (l : Limits) (h : House) (x : Call) where
   -- refused by t at every stage that can do the call; 0: taken
@@ -48,12 +48,3 @@ module _ (l : Limits) (h : House) (x : Call) where
     says = λ can e. s ∙ sym (ap (λ (v : ℕ). pick (eqb v 0) (told h x) (refused v (place x v))) (in-range 0 g f can e));
     leaves = λ can e. t ∙ sym (ap (λ (v : ℕ). pick (eqb v 0) (changed h x) h) (in-range 0 g f can e));
   }
-
--- the range of a leg: its numbers, and its limits
-pub opens-range : (a b c d : ℕ) (ls : List ℕ) → good-fields (opens a b c d ls) ≡ (leg-fits a b c d && good-limits ls)
-unfolding good-fields
-opens-range a b c d ls = regroup (ltb a 65536 && ltb b 65536) (ltb c d && ltb d 16777216) (good-limits ls)
-  where
-    regroup : (p q r : Bool) → (p && (q && r)) ≡ ((p && q) && r)
-    regroup true q r = refl
-    regroup false q r = refl

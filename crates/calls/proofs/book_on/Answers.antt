@@ -1,0 +1,1 @@
+use Rattle.calls.proofs.book_on.Needs as need
