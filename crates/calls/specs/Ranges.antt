@@ -2,7 +2,9 @@
 use mathlib.Core.Path.{_≡_}
 use mathlib.Core.Bool.{Bool, _&&_}
 use Prim.Native.Nat.{ℕ, _≤_, _<_}
+use mathlib.Core.List.{List}
 use lib.Dec.{ltb, leb}
+use lib.ListN.{length}
 use Rattle.std.specs.declared.option.Option.{Option}
 use Rattle.std.specs.declared.option.Option.the-variants.{Some, None}
 
@@ -18,3 +20,11 @@ fare-fits a b c n p = (ltb a 65536 && ltb b 65536) && ((ltb c 26 && (leb 1 n && 
 abbrev pub Next-number : ℕ → ℕ → Option ℕ → Type 0
 Next-number count most (Some n) = (n ≡ count) × (count < most)
 Next-number count most None = most ≤ count
+
+-- what a booking asks for, in range
+pub record Asks (c n : ℕ) (is : List ℕ) : Type 0 where
+  pub class : c < 26
+  pub least : 1 ≤ n
+  pub seats : n ≤ 9
+  pub some : 1 ≤ length is
+  pub few : length is ≤ 8

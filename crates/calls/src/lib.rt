@@ -2,16 +2,16 @@
 // on or returning the refusal; the first that applies decides, and nothing is changed then.
 // `Meant`, of the crate `checks`, is what it means that a call is done as the meaning says.
 ghost use mathlib.Core.Path.{_≡_};
-ghost use mathlib.Core.Bool.{true, false};
+ghost use mathlib.Core.Bool.{false};
 ghost use mathlib.Core.List.{[]};
 ghost use Prim.Native.Nat.{_<_, _≤_};
-ghost use Rattle.meaning.specs.Calls.{books, files, good-fields, opens};
+ghost use Rattle.meaning.specs.Calls.{books, files, opens};
 ghost use Rattle.meaning.specs.Statements.{some-could};
 ghost use Rattle.protocol.specs.Forms.{answer-of};
 ghost use Rattle.store.specs.Whole.{Lent, Sound, house};
 ghost use Rattle.wire.specs.Bytes.{numbers-in};
 ghost use Rattle.checks.specs.Meant.{Meant};
-ghost use Rattle.calls.specs.Ranges.{Next-number, fare-fits, leg-fits};
+ghost use Rattle.calls.specs.Ranges.{Asks, Next-number, fare-fits, leg-fits};
 use checks::are_apart;
 use checks::are_there;
 use checks::connect;
@@ -99,7 +99,7 @@ pub fn file_fare(m: &mut Memory, fare: &Fare) -> Answer
 fn book_on(m: &mut Memory, class: u32, seats: u32, legs: &[u32]) -> Answer
     requires sound { ⌜ Sound (now m) ⌝ }
     requires idle { ⌜ some-could (house (now m)) (house (now m) .bookings) ≡ false ⌝ }
-    requires asks { ⌜ good-fields (books class seats (now legs)) ≡ true ⌝ }
+    requires asks { ⌜ Asks class seats (now legs) ⌝ }
     ensures meant { λ r. ⌜ Meant (now (m .entry) .limits) (house (now (m .entry))) (books class seats (now (legs .entry))) (answer-of r []) (house (now (m .exit))) ⌝ }
     ensures sound { λ _. ⌜ Sound (now (m .exit)) ⌝ }
     ensures lent { λ _. ⌜ Lent (now (m .entry)) (now (m .exit)) ⌝ }
@@ -116,7 +116,7 @@ fn book_on(m: &mut Memory, class: u32, seats: u32, legs: &[u32]) -> Answer
     if m.leg(legs[0] as usize).leaves <= m.clock() {
         return Answer::Refused { refusal: 5, place: 2 };
     }
-    let Some(_) = price(m, class, legs) else {
+    let Some(_price) = price(m, class, legs) else {
         return Answer::Refused { refusal: 6, place: 2 };
     };
     let Some(number) = next_number(m.booking_count(), m.limits().bookings) else {
@@ -124,6 +124,6 @@ fn book_on(m: &mut Memory, class: u32, seats: u32, legs: &[u32]) -> Answer
     };
     let until = m.clock() + m.limits().hold;
     m.push_booking(&Booking::new(class, seats, legs));
-    let held = serve_newest(m, until);
-    Answer::Booked { booking: number as u64, stands: u64::from(held) }
+    let stands = if serve_newest(m, until) { 1 } else { 0 };
+    Answer::Booked { booking: number as u64, stands }
 }
