@@ -28,3 +28,7 @@ pub record Asks (c n : ℕ) (is : List ℕ) : Type 0 where
   pub seats : n ≤ 9
   pub some : 1 ≤ length is
   pub few : length is ≤ 8
+
+-- a booking's class and seats in range
+abbrev pub seats-fit : ℕ → ℕ → Bool
+seats-fit c n = ltb c 26 && (leb 1 n && leb n 9)

@@ -5,19 +5,28 @@ ghost use mathlib.Core.Path.{_≡_};
 ghost use mathlib.Core.Bool.{false};
 ghost use mathlib.Core.List.{[]};
 ghost use Prim.Native.Nat.{_<_, _≤_};
+ghost use lib.ListN.{drop, take};
 ghost use Rattle.meaning.specs.Calls.{books, files, opens};
-ghost use Rattle.meaning.specs.Statements.{some-could};
-ghost use Rattle.protocol.specs.Forms.{answer-of};
+ghost use Rattle.meaning.specs.Statements.{Reached, some-could};
+ghost use Rattle.protocol.specs.Forms.{answer-of, call-of};
 ghost use Rattle.store.specs.Whole.{Lent, Sound, house};
 ghost use Rattle.wire.specs.Bytes.{numbers-in};
 ghost use Rattle.checks.specs.Meant.{Meant};
-ghost use Rattle.calls.specs.Ranges.{Asks, Next-number, fare-fits, leg-fits};
+ghost use Rattle.calls.specs.Ranges.{Asks, Next-number, fare-fits, leg-fits, seats-fit};
+ghost use Rattle.calls.specs.Stage.{Done, stage};
 use checks::are_apart;
 use checks::are_there;
 use checks::connect;
+use checks::read_journey;
 use checks::read_limits;
 use pricing::price;
 use protocol::Answer;
+use protocol::Call;
+use questions::Reply;
+use questions::ask_booking;
+use questions::ask_free;
+use questions::ask_leg;
+use questions::ask_price;
 use records::Booking;
 use records::Fare;
 use records::Leg;
@@ -126,4 +135,55 @@ fn book_on(m: &mut Memory, class: u32, seats: u32, legs: &[u32]) -> Answer
     m.push_booking(&Booking::new(class, seats, legs));
     let stands = if serve_newest(m, until) { 1 } else { 0 };
     Answer::Booked { booking: number as u64, stands }
+}
+
+// Are a booking's class and seats in range.
+fn seats_in_range(class: u32, seats: u32) -> bool
+    ensures { λ r. ⌜ r ≡ seats-fit class seats ⌝ }
+{
+    class < 26 && (1 <= seats && seats <= 9)
+}
+
+// Books so many seats in a class on the journey that a part lists.
+pub fn book(m: &mut Memory, class: u32, seats: u32, part: &[u8]) -> Answer
+    requires sound { ⌜ Sound (now m) ⌝ }
+    requires idle { ⌜ some-could (house (now m)) (house (now m) .bookings) ≡ false ⌝ }
+    ensures meant { λ r. ⌜ Meant (now (m .entry) .limits) (house (now (m .entry))) (books class seats (numbers-in (now (part .entry)))) (answer-of r []) (house (now (m .exit))) ⌝ }
+    ensures sound { λ _. ⌜ Sound (now (m .exit)) ⌝ }
+    ensures lent { λ _. ⌜ Lent (now (m .entry)) (now (m .exit)) ⌝ }
+{
+    if !seats_in_range(class, seats) {
+        return OUT_OF_RANGE;
+    }
+    let Some(journey) = read_journey(part) else {
+        return OUT_OF_RANGE;
+    };
+    book_on(m, class, seats, &journey.legs[0..journey.count])
+}
+
+// Does a call: answers it, and leaves the house as the meaning says, at the stage that opens, files,
+// books and asks. What can't be done at this stage is refused by 2.
+pub fn perform(m: &mut Memory, call: Call, part: &[u8], sold: &mut [u64; 26]) -> Reply
+    requires sound { ⌜ Sound (now m) ⌝ }
+    requires reached { ⌜ Reached (stage (now m)) (house (now m)) ⌝ }
+    ensures done { λ r. ⌜ Done (now (m .entry)) (now (m .exit)) (call-of call (numbers-in (now (part .entry)))) (r .answer) (take (r .listed) (now (sold .exit))) ⌝ }
+    ensures listed { λ r. ⌜ r .listed ≤ 26 ⌝ }
+    ensures behind { λ r. ⌜ drop (r .listed) (now (sold .exit)) ≡ drop (r .listed) (now (sold .entry)) ⌝ }
+{
+    let answer = match call {
+        Call::Open { from, to, leaves, arrives } => open_leg(m, from, to, leaves, arrives, part),
+        Call::File { origin, goal, class, most_legs, price } => {
+            file_fare(m, &Fare { origin, goal, class, most: most_legs, price })
+        }
+        Call::Book { class, seats } => book(m, class, seats, part),
+        Call::Free { leg, class } => ask_free(m, leg, class),
+        Call::Price { class } => ask_price(m, class, part),
+        Call::Booking { booking } => ask_booking(m, booking),
+        Call::Leg { leg } => return ask_leg(m, leg, sold),
+        Call::Pay { booking: _booking } => OUT_OF_RANGE,
+        Call::Cancel { booking: _booking } => OUT_OF_RANGE,
+        Call::Limits { leg: _leg } => OUT_OF_RANGE,
+        Call::Ticks { count: _count } => OUT_OF_RANGE,
+    };
+    Reply { answer, listed: 0 }
 }
