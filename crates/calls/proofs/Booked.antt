@@ -2,22 +2,22 @@
 use mathlib.Core.Path.{_≡_, refl, sym, ap, ap₂, _∙_}
 use mathlib.Core.Bool.{Bool, true, false, _&&_}
 use mathlib.Core.List.{List, [], _∷_, _++_}
-use Prim.Native.Nat.{ℕ, zero, suc, _+_, _-_, _<_, _≤_}
+use Prim.Native.Nat.{ℕ, suc, _+_, _<_, _≤_}
 use native.Mathlib.Omega.{arith}
-use lib.Dec.{eqb, ltb, leb}
+use lib.Dec.{eqb, ltb}
 use lib.ListN.{length, getD, take}
 use Rattle.std.proofs.shelf.Tests.{lt-ltb, le-ltb, le-leb, eq-eqb, ne-eqb, and-from, and-left, and-right}
 use Rattle.std.proofs.shelf.Lists.{getD-push, length-push, take-at}
 use Rattle.meaning.specs.Lines.{pick, leg, follows, cost}
 use Rattle.meaning.specs.House.{Booking, House, first-leg, with-bookings}
-use Rattle.meaning.specs.Calls.{Call, books, refused, two, good-fields, turned-by, place, changed, told, all-there, no-twice, the-booking}
+use Rattle.meaning.specs.Calls.{books, refused, two, good-fields, turned-by, place, changed, told, all-there, no-twice, the-booking}
 use Rattle.meaning.specs.Statements.{some-could}
 use Rattle.meaning.proofs.Serve.{none}
 use Rattle.limits.specs.declared.Limits.{Limits}
-use Rattle.seating.specs.Serving.{Newcomer, all-served, before-last, last}
+use Rattle.seating.specs.Serving.{Newcomer, all-served, last}
 use Rattle.store.specs.Whole.{plus-booking}
 use Rattle.checks.specs.Meant.{Meant}
-use Rattle.checks.proofs.Verdicts.{out-of-range, refuses, takes}
+use Rattle.checks.proofs.Verdicts.{refuses, takes}
 use Rattle.calls.specs.Ranges.{Asks}
 
 pub first-is : (is : List ℕ) → first-leg is ≡ getD is 0 0

@@ -2,15 +2,24 @@
 use mathlib.Core.Path.{_≡_, refl, sym, ap, subst, _∙_}
 use mathlib.Core.Bool.{Bool, true, false, _&&_, _||_}
 use mathlib.Core.List.{List, [], _∷_, _++_}
-use Prim.Native.Nat.{ℕ}
-use native.Mathlib.Omega.{arith}
+use Prim.Native.Nat.{ℕ, _+_, _<_}
 use lib.Dec.{eqb}
+use lib.ListN.{length, getD, take}
+use Rattle.std.proofs.shelf.Lists.{take-more}
 use Rattle.meaning.specs.Lines.{pick}
 use Rattle.meaning.specs.House.{House}
 use Rattle.meaning.specs.Calls as meaning
-use Rattle.meaning.specs.Calls.{Call, pays, cancels, limits-to, ticks, refused, call-number, good-fields, turned-by, place, changed, told, after, ran, new-house}
+use Rattle.meaning.specs.Calls.{Call, pays, cancels, limits-to, ticks, garbled, refused, call-number, good-fields, turned-by, place, changed, told, after, ran, new-house}
 use Rattle.meaning.specs.Promise.{thin}
-use Rattle.meaning.specs.Statements.{Reached, some-could, Nobody-waits}
+use Rattle.meaning.specs.Statements.{Reached, some-could, Sold-once, Nobody-waits, In-time, Paid-stays, First-served, Free-is-free, Untouched, Turned-away}
+use Rattle.meaning.proofs.Cheap.{cheapest}
+use Rattle.meaning.proofs.Count.{untouched}
+use Rattle.meaning.proofs.First.{first-served}
+use Rattle.meaning.proofs.Free.{free-is-free}
+use Rattle.meaning.proofs.Paid.{paid-stays}
+use Rattle.meaning.proofs.Sold.{sold-once}
+use Rattle.meaning.proofs.Time.{in-time}
+use Rattle.meaning.proofs.Turned.{turned-away}
 use Rattle.meaning.proofs.Waits.{nobody-waits}
 use Rattle.limits.specs.Opening.{limits-mean}
 use Rattle.limits.specs.declared.Limits.{Limits}
@@ -21,7 +30,7 @@ use Rattle.store.specs.Whole.{Lent, Sound, house}
 use Rattle.store.specs.declared.Memory.{Memory}
 use Rattle.store.proofs.Lents.{lent-none}
 use Rattle.checks.specs.Meant.{Meant}
-use Rattle.calls.specs.Stage.{Done, stage}
+use Rattle.calls.specs.Stage.{Done, Promised, stage}
 
 -- one call more at the end
 ran-next : (l : meaning.Limits) (h : House) (cs : List Call) (x : Call) → ran l h (cs ++ (x ∷ [])) ≡ after l (ran l h cs) x
@@ -79,3 +88,28 @@ module _ (m : Memory) (r : Reached (stage m) (house m)) (s : Sound m) where
   pub ticks-later : (n : ℕ) → Done m m (ticks n) (answer.Refused 2 0) []
   unfolding call-number place
   ticks-later n = later m (ticks n) refl refl r s
+
+-- bytes that are no call
+pub not-read : (m : Memory) (n : ℕ) → Reached (stage m) (house m) → Sound m → Done m m (garbled n) (answer.Refused 1 n) []
+unfolding call-number good-fields turned-by place
+not-read m n r s = record { says = refl; leaves = refl; reached = reached-next (stage m) (house m) (house m) (garbled n) r refl; sound = s; lent = lent-none m }
+
+-- what is promised of every house that calls lead to
+pub promised : (l : meaning.Limits) (h : House) → Reached l h → Promised l h
+unfolding Sold-once Nobody-waits In-time Paid-stays First-served Free-is-free Untouched Turned-away
+promised l h r = record {
+  reached = r;
+  sold-once = λ x i c. sold-once l h x i c r;
+  nobody-waits = nobody-waits l h r;
+  in-time = λ g. in-time l h g r;
+  paid-stays = λ x k. paid-stays l h x k r;
+  first-served = λ x j k. first-served l h x j k r;
+  cheapest = cheapest;
+  free-is-free = λ i c n. free-is-free l h i c n r;
+  untouched = λ x i c. untouched l h x i c r;
+  turned-away = λ x cs. turned-away l h x cs;
+}
+
+-- one row more
+pub rows-more : (l : meaning.Limits) (h : House) (xs : List Call) (i : ℕ) (x : Call) → i < length xs → x ≡ getD xs i x → ran l h (take (i + 1) xs) ≡ after l (ran l h (take i xs)) x
+rows-more l h xs i x b e = ap (ran l h) (take-more xs i x b) ∙ ran-next l h (take i xs) (getD xs i x) ∙ ap (after l (ran l h (take i xs))) (sym e)

@@ -6,14 +6,15 @@ ghost use mathlib.Core.Bool.{false};
 ghost use mathlib.Core.List.{[]};
 ghost use Prim.Native.Nat.{_<_, _≤_};
 ghost use lib.ListN.{drop, take};
-ghost use Rattle.meaning.specs.Calls.{books, files, opens};
+ghost use Rattle.meaning.specs.Calls.{books, files, opens, ran};
 ghost use Rattle.meaning.specs.Statements.{Reached, some-could};
 ghost use Rattle.protocol.specs.Forms.{answer-of, call-of};
 ghost use Rattle.store.specs.Whole.{Lent, Sound, house};
 ghost use Rattle.wire.specs.Bytes.{numbers-in};
+ghost use Rattle.wire.specs.Rows.{decoded};
 ghost use Rattle.checks.specs.Meant.{Meant};
 ghost use Rattle.calls.specs.Ranges.{Asks, Next-number, fare-fits, leg-fits, seats-fit};
-ghost use Rattle.calls.specs.Stage.{Done, stage};
+ghost use Rattle.calls.specs.Stage.{Done, Promised, calls-of, stage};
 use checks::are_apart;
 use checks::are_there;
 use checks::connect;
@@ -32,9 +33,13 @@ use records::Fare;
 use records::Leg;
 use seating::serve_newest;
 use store::Memory;
+use wire::decode;
 
 // What is out of range, or can't be done at this stage.
-const OUT_OF_RANGE: Answer = Answer::Refused { refusal: 2, place: 0 };
+const OUT_OF_RANGE: Answer = Answer::Refused {
+    refusal: 2,
+    place: 0,
+};
 
 // The number of one record more; none where the limit is reached.
 fn next_number(count: usize, most: u32) -> Option<usize>
@@ -55,7 +60,14 @@ fn leg_in_range(from: u32, to: u32, leaves: u32, arrives: u32) -> bool
 }
 
 // Opens a leg.
-pub fn open_leg(m: &mut Memory, from: u32, to: u32, leaves: u32, arrives: u32, part: &[u8]) -> Answer
+pub fn open_leg(
+    m: &mut Memory,
+    from: u32,
+    to: u32,
+    leaves: u32,
+    arrives: u32,
+    part: &[u8],
+) -> Answer
     requires { ⌜ Sound (now m) ⌝ }
     ensures meant { λ r. ⌜ Meant (now (m .entry) .limits) (house (now (m .entry))) (opens from to leaves arrives (numbers-in (now (part .entry)))) (answer-of r []) (house (now (m .exit))) ⌝ }
     ensures sound { λ _. ⌜ Sound (now (m .exit)) ⌝ }
@@ -68,14 +80,22 @@ pub fn open_leg(m: &mut Memory, from: u32, to: u32, leaves: u32, arrives: u32, p
         return OUT_OF_RANGE;
     };
     if leaves <= m.clock() {
-        return Answer::Refused { refusal: 5, place: 2 };
+        return Answer::Refused {
+            refusal: 5,
+            place: 2,
+        };
     }
     let Some(number) = next_number(m.leg_count(), m.limits().legs) else {
-        return Answer::Refused { refusal: 9, place: 0 };
+        return Answer::Refused {
+            refusal: 9,
+            place: 0,
+        };
     };
     let leg = Leg::new(from, to, leaves, arrives, &row.limits[0..row.count]);
     m.push_leg(&leg);
-    Answer::Number { value: number as u64 }
+    Answer::Number {
+        value: number as u64,
+    }
 }
 
 // Are a fare's numbers in range.
@@ -97,10 +117,15 @@ pub fn file_fare(m: &mut Memory, fare: &Fare) -> Answer
         return OUT_OF_RANGE;
     }
     let Some(number) = next_number(m.fare_count(), m.limits().fares) else {
-        return Answer::Refused { refusal: 9, place: 0 };
+        return Answer::Refused {
+            refusal: 9,
+            place: 0,
+        };
     };
     m.push_fare(fare);
-    Answer::Number { value: number as u64 }
+    Answer::Number {
+        value: number as u64,
+    }
 }
 
 // Books so many seats in a class on these legs. Nobody waits for what is free, so the new booking is
@@ -114,27 +139,48 @@ fn book_on(m: &mut Memory, class: u32, seats: u32, legs: &[u32]) -> Answer
     ensures lent { λ _. ⌜ Lent (now (m .entry)) (now (m .exit)) ⌝ }
 {
     if !are_there(m, class, legs) {
-        return Answer::Refused { refusal: 4, place: 2 };
+        return Answer::Refused {
+            refusal: 4,
+            place: 2,
+        };
     }
     if !connect(m, legs) {
-        return Answer::Refused { refusal: 5, place: 2 };
+        return Answer::Refused {
+            refusal: 5,
+            place: 2,
+        };
     }
     if !are_apart(legs) {
-        return Answer::Refused { refusal: 5, place: 2 };
+        return Answer::Refused {
+            refusal: 5,
+            place: 2,
+        };
     }
     if m.leg(legs[0] as usize).leaves <= m.clock() {
-        return Answer::Refused { refusal: 5, place: 2 };
+        return Answer::Refused {
+            refusal: 5,
+            place: 2,
+        };
     }
     let Some(_price) = price(m, class, legs) else {
-        return Answer::Refused { refusal: 6, place: 2 };
+        return Answer::Refused {
+            refusal: 6,
+            place: 2,
+        };
     };
     let Some(number) = next_number(m.booking_count(), m.limits().bookings) else {
-        return Answer::Refused { refusal: 9, place: 0 };
+        return Answer::Refused {
+            refusal: 9,
+            place: 0,
+        };
     };
     let until = m.clock() + m.limits().hold;
     m.push_booking(&Booking::new(class, seats, legs));
     let stands = if serve_newest(m, until) { 1 } else { 0 };
-    Answer::Booked { booking: number as u64, stands }
+    Answer::Booked {
+        booking: number as u64,
+        stands,
+    }
 }
 
 // Are a booking's class and seats in range.
@@ -171,9 +217,29 @@ pub fn perform(m: &mut Memory, call: Call, part: &[u8], sold: &mut [u64; 26]) ->
     ensures behind { λ r. ⌜ drop (r .listed) (now (sold .exit)) ≡ drop (r .listed) (now (sold .entry)) ⌝ }
 {
     let answer = match call {
-        Call::Open { from, to, leaves, arrives } => open_leg(m, from, to, leaves, arrives, part),
-        Call::File { origin, goal, class, most_legs, price } => {
-            file_fare(m, &Fare { origin, goal, class, most: most_legs, price })
+        Call::Open {
+            from,
+            to,
+            leaves,
+            arrives,
+        } => open_leg(m, from, to, leaves, arrives, part),
+        Call::File {
+            origin,
+            goal,
+            class,
+            most_legs,
+            price,
+        } => {
+            file_fare(
+                m,
+                &Fare {
+                    origin,
+                    goal,
+                    class,
+                    most: most_legs,
+                    price,
+                },
+            )
         }
         Call::Book { class, seats } => book(m, class, seats, part),
         Call::Free { leg, class } => ask_free(m, leg, class),
@@ -186,4 +252,43 @@ pub fn perform(m: &mut Memory, call: Call, part: &[u8], sold: &mut [u64; 26]) ->
         Call::Ticks { count: _count } => OUT_OF_RANGE,
     };
     Reply { answer, listed: 0 }
+}
+
+// Does the call that a row of bytes is. Bytes that are no call are refused by 1, where they cease to
+// be one.
+pub fn answer_row(m: &mut Memory, bytes: &[u8], sold: &mut [u64; 26]) -> Reply
+    requires sound { ⌜ Sound (now m) ⌝ }
+    requires reached { ⌜ Reached (stage (now m)) (house (now m)) ⌝ }
+    ensures done { λ r. ⌜ Done (now (m .entry)) (now (m .exit)) (decoded (now (bytes .entry))) (r .answer) (take (r .listed) (now (sold .exit))) ⌝ }
+    ensures listed { λ r. ⌜ r .listed ≤ 26 ⌝ }
+    ensures behind { λ r. ⌜ drop (r .listed) (now (sold .exit)) ≡ drop (r .listed) (now (sold .entry)) ⌝ }
+{
+    let row = match decode(bytes) {
+        Ok(row) => row,
+        Err(place) => {
+            let answer = Answer::Refused {
+                refusal: 1,
+                place: place as u64,
+            };
+            return Reply { answer, listed: 0 };
+        }
+    };
+    perform(m, row.call, row.list, sold)
+}
+
+// Does the calls of a list of rows, one after the other. Whatever they are and in whatever order they
+// come, memory means the house that the meaning's run of them leads to, and all that is promised of
+// such a house holds of it.
+pub fn run_rows(m: &mut Memory, rows: &[&[u8]])
+    requires sound { ⌜ Sound (now m) ⌝ }
+    requires reached { ⌜ Reached (stage (now m)) (house (now m)) ⌝ }
+    ensures ran { λ _. ⌜ house (now (m .exit)) ≡ ran (stage (now (m .entry))) (house (now (m .entry))) (calls-of (now (rows .entry))) ⌝ }
+    ensures promised { λ _. ⌜ Promised (stage (now (m .exit))) (house (now (m .exit))) ⌝ }
+    ensures sound { λ _. ⌜ Sound (now (m .exit)) ⌝ }
+    ensures lent { λ _. ⌜ Lent (now (m .entry)) (now (m .exit)) ⌝ }
+{
+    let mut sold = [0; 26];
+    for row in rows {
+        let _ = answer_row(m, row, &mut sold);
+    }
 }

@@ -1,14 +1,13 @@
 -- A call is done as the meaning says: refused for its range, refused by what the house holds, or taken.
-use mathlib.Core.Path.{_≡_, refl, sym, ap, _∙_}
-use mathlib.Core.Bool.{Bool, true, false, _&&_, _||_}
-use mathlib.Core.List.{List}
+use mathlib.Core.Path.{_≡_, sym, ap, _∙_}
+use mathlib.Core.Bool.{Bool, true, false, _||_}
 use Prim.Native.Nat.{ℕ}
 use native.Mathlib.Omega.{arith}
-use lib.Dec.{eqb, ltb}
+use lib.Dec.{eqb}
 use Rattle.std.proofs.shelf.Tests.{and-from, and-right, or-right, ne-eqb}
 use Rattle.meaning.specs.Lines.{pick}
 use Rattle.meaning.specs.House.{House}
-use Rattle.meaning.specs.Calls.{Call, opens, Answer, refused, call-number, good-fields, good-limits, good-call, turned-by, turned, place, changed, told}
+use Rattle.meaning.specs.Calls.{Call, Answer, refused, call-number, good-fields, good-call, turned-by, turned, place, changed, told}
 use Rattle.limits.specs.Opening.{limits-mean}
 use Rattle.limits.specs.declared.Limits.{Limits}
 use Rattle.checks.specs.Meant.{Meant}

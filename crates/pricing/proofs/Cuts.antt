@@ -61,8 +61,8 @@ pub piece-more : (fs : List Fare) (ls : List Leg) (c i : ℕ) (is : List ℕ) (k
 unfolding piece
 piece-more fs ls c i is k f b o r p h g e t s =
     let q : piece (drop k fs) ls c i is ≡ cheaper o (piece (drop (k + 1) fs) ls c i is) =
-        at-drop-more (λ v. piece v ls c i is) fs k f h ∙ ap (λ (y : Fare). cheaper (pick (fits-fare ls c i is y) (suc (y .price)) 0) (piece (drop (k + 1) fs) ls c i is)) (sym (g f))
-        ∙ ap (λ (x : ℕ). cheaper x (piece (drop (k + 1) fs) ls c i is)) (sym e) in
+    at-drop-more (λ v. piece v ls c i is) fs k f h ∙ ap (λ (y : Fare). cheaper (pick (fits-fare ls c i is y) (suc (y .price)) 0) (piece (drop (k + 1) fs) ls c i is)) (sym (g f))
+    ∙ ap (λ (x : ℕ). cheaper x (piece (drop (k + 1) fs) ls c i is)) (sym e) in
     ap (λ (x : ℕ). cheaper x (piece (drop (k + 1) fs) ls c i is)) t ∙ cheaper-three b o (piece (drop (k + 1) fs) ls c i is) ∙ ap (λ (x : ℕ). cheaper b x) (sym q) ∙ s
 
 -- all fares

@@ -2,14 +2,14 @@
 use mathlib.Core.Path.{_≡_, refl, sym, ap, ap₂, _∙_}
 use mathlib.Core.Bool.{Bool, true, false, _&&_}
 use mathlib.Core.List.{List, [], _∷_, _++_}
-use Prim.Native.Nat.{ℕ, zero, suc, _+_, _-_, _<_, _≤_}
+use Prim.Native.Nat.{ℕ, zero, suc, _+_, _<_, _≤_}
 use native.Mathlib.Omega.{arith}
 use lib.Dec.{eqb, ltb, leb}
 use lib.ListN.{length}
 use Rattle.std.proofs.shelf.Tests.{lt-ltb, le-ltb, le-leb, eq-eqb, ne-eqb, and-from, and-left, and-right}
-use Rattle.meaning.specs.Lines.{pick, Leg, leg, follows, cost}
+use Rattle.meaning.specs.Lines.{pick, leg, follows, cost}
 use Rattle.meaning.specs.House.{Booking, House, taken}
-use Rattle.meaning.specs.Calls.{Answer, booking, free, price-of, leg-is, refused, number, stands-so, sold, good-fields, turned-by, place, changed, told, most, each-class, all-there, no-twice, the-booking}
+use Rattle.meaning.specs.Calls.{booking, free, price-of, leg-is, refused, number, stands-so, sold, good-fields, turned-by, place, changed, told, most, each-class, all-there, no-twice, the-booking}
 use Rattle.limits.specs.declared.Limits.{Limits}
 use Rattle.checks.specs.Meant.{Meant}
 use Rattle.checks.proofs.Verdicts.{out-of-range, refuses, takes}

@@ -20,7 +20,10 @@ use seating::free_seats;
 use store::Memory;
 
 // What is out of range.
-const OUT_OF_RANGE: Answer = Answer::Refused { refusal: 2, place: 0 };
+const OUT_OF_RANGE: Answer = Answer::Refused {
+    refusal: 2,
+    place: 0,
+};
 
 // An answer, and how many numbers of the list beside it are its own.
 #[derive(Clone, Copy)]
@@ -36,10 +39,17 @@ pub fn ask_booking(m: &Memory, number: u32) -> Answer
 {
     let k = number as usize;
     if k >= m.booking_count() {
-        return Answer::Refused { refusal: 7, place: 0 };
+        return Answer::Refused {
+            refusal: 7,
+            place: 0,
+        };
     }
     let b = m.booking(k);
-    Answer::Stands { stands: u64::from(b.stands), until: u64::from(b.until), paid: b.paid }
+    Answer::Stands {
+        stands: u64::from(b.stands),
+        until: u64::from(b.until),
+        paid: b.paid,
+    }
 }
 
 // How many seats are free on a leg in a class.
@@ -52,13 +62,21 @@ pub fn ask_free(m: &Memory, leg: u32, class: u32) -> Answer
     }
     let i = leg as usize;
     if i >= m.leg_count() {
-        return Answer::Refused { refusal: 4, place: 0 };
+        return Answer::Refused {
+            refusal: 4,
+            place: 0,
+        };
     }
     let g = m.leg(i);
     if class >= g.classes {
-        return Answer::Refused { refusal: 4, place: 0 };
+        return Answer::Refused {
+            refusal: 4,
+            place: 0,
+        };
     }
-    Answer::Number { value: u64::from(free_seats(m, i, class)) }
+    Answer::Number {
+        value: u64::from(free_seats(m, i, class)),
+    }
 }
 
 // What a seat in a class costs on these legs.
@@ -70,16 +88,28 @@ fn price_on(m: &Memory, class: u32, legs: &[u32]) -> Answer
     ensures { λ r. ⌜ Meant (now (m .entry) .limits) (house (now (m .entry))) (price-of class (now (legs .entry))) (answer-of r []) (house (now (m .entry))) ⌝ }
 {
     if !are_there(m, class, legs) {
-        return Answer::Refused { refusal: 4, place: 1 };
+        return Answer::Refused {
+            refusal: 4,
+            place: 1,
+        };
     }
     if !connect(m, legs) {
-        return Answer::Refused { refusal: 5, place: 1 };
+        return Answer::Refused {
+            refusal: 5,
+            place: 1,
+        };
     }
     if !are_apart(legs) {
-        return Answer::Refused { refusal: 5, place: 1 };
+        return Answer::Refused {
+            refusal: 5,
+            place: 1,
+        };
     }
     let Some(cents) = price(m, class, legs) else {
-        return Answer::Refused { refusal: 6, place: 1 };
+        return Answer::Refused {
+            refusal: 6,
+            place: 1,
+        };
     };
     Answer::Number { value: cents }
 }
@@ -108,11 +138,20 @@ pub fn ask_leg(m: &Memory, leg: u32, sold: &mut [u64; 26]) -> Reply
 {
     let i = leg as usize;
     if i >= m.leg_count() {
-        return Reply { answer: Answer::Refused { refusal: 4, place: 0 }, listed: 0 };
+        return Reply {
+            answer: Answer::Refused {
+                refusal: 4,
+                place: 0,
+            },
+            listed: 0,
+        };
     }
     let classes = m.leg(i).classes as usize;
     for class in 0..classes {
         sold[class] = u64::from(m.taken(i, class));
     }
-    Reply { answer: Answer::Sold, listed: classes }
+    Reply {
+        answer: Answer::Sold,
+        listed: classes,
+    }
 }

@@ -1,17 +1,12 @@
 -- The checks of a booking in their order; then it is pushed, and served if there is room.
 use mathlib.Core.Path.{_≡_, refl, sym, ap, subst, _∙_}
-use mathlib.Core.Bool.{Bool, true, false}
-use mathlib.Core.List.{List, [], _∷_, _++_}
-use Prim.Native.Nat.{ℕ, suc, _+_, _-_, _<_, _≤_}
+use Prim.Native.Nat.{_+_}
 use native.Mathlib.Omega.{arith}
 use lib.ListN.{length, getD}
-use Rattle.std.proofs.shelf.Lists.{length-push}
-use Rattle.meaning.specs.Lines.{Leg, leg, cost}
-use Rattle.meaning.specs.House.{House}
+use Rattle.meaning.specs.Lines.{Leg, leg}
 use Rattle.meaning.specs.Calls.{the-booking}
 use Rattle.limits.specs.declared.Limits.{Limits}
 use Rattle.records.specs.Means.{booking-means}
-use Rattle.records.specs.Words.{booking-of}
 use Rattle.records.proofs.News.{booking-of-means}
 use Rattle.seating.specs.Serving.{Newcomer, all-served, last}
 use Rattle.store.specs.Range.{Fine-booking}

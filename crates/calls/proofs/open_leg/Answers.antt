@@ -1,15 +1,13 @@
 -- Out of range, one that has left, one too many, or opened.
 use mathlib.Core.Path.{_≡_, refl, sym, ap, ap₂, subst, _∙_}
-use mathlib.Core.Bool.{Bool, true, false, _&&_}
-use mathlib.Core.List.{List}
-use Prim.Native.Nat.{ℕ, _-_}
+use mathlib.Core.Bool.{Bool, true, false}
+use Prim.Native.Nat.{_-_}
 use native.Mathlib.Omega.{arith}
 use lib.Dec.{ltb}
 use lib.ListN.{length, take}
 use Rattle.std.proofs.shelf.Tests.{lt-ltb, le-ltb, and-left, and-right, and-from}
-use Rattle.std.proofs.shelf.Lists.{length-take-le}
 use Rattle.meaning.specs.Lines.{pick}
-use Rattle.meaning.specs.Calls.{Call, opens, number, good-fields, good-limits, turned-by, place, changed, told}
+use Rattle.meaning.specs.Calls.{opens, number, good-limits, turned-by, place, changed, told}
 use Rattle.limits.specs.declared.Limits.{Limits}
 use Rattle.records.specs.Words.{leg-of}
 use Rattle.records.specs.Means.{leg-means}

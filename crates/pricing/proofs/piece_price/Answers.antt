@@ -19,7 +19,7 @@ loop-k-again c =
     let p : List ℕ = c .args .part .now in
     let k : ℕ = c .loop-k .k in
     let asked : coded (c .offer .result) ≡ pick (fits (c .fare .result) (stretch ls (c .args .class) (getD p 0 0) (drop 1 p))) (suc (c .fare .result .price)) 0 =
-        c .offer .ensures ∙ ap (λ (s : Stretch). pick (fits (c .fare .result) s) (suc (c .fare .result .price)) 0) (c .stretch-of-asked .ensures) in (
+    c .offer .ensures ∙ ap (λ (s : Stretch). pick (fits (c .fare .result) s) (suc (c .fare .result .price)) 0) (c .stretch-of-asked .ensures) in (
       piece-more fs ls (c .args .class) (getD p 0 0) (drop 1 p) k (fare-means (c .fare .result)) (coded (c .loop-k .best)) (coded (c .offer .result)) (coded (c .cheaper-of-best .result)) _
           (omega arith) (c .fare .ensures .means) asked (c .cheaper-of-best .ensures) (c .loop-k .inv .0),
       subst (λ (z : ℕ). z ≤ 100000001) (sym (c .cheaper-of-best .ensures)) (cheaper-le (coded (c .loop-k .best)) (coded (c .offer .result)) 100000001 (c .loop-k .inv .1)

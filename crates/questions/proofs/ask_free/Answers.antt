@@ -1,4 +1,4 @@
-use mathlib.Core.Path.{_≡_, _∙_}
+use mathlib.Core.Path.{_∙_}
 use native.Mathlib.Omega.{arith}
 use Rattle.store.specs.Whole.{house}
 use Rattle.questions.proofs.Asked.{no-such-class, no-leg, no-class, so-free}

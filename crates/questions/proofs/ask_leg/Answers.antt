@@ -3,7 +3,7 @@ use mathlib.Core.Path.{_≡_, refl, sym, ap, _∙_}
 use mathlib.Core.List.{List, [], _∷_, _++_}
 use Prim.Native.Nat.{ℕ, _+_}
 use native.Mathlib.Omega.{arith}
-use lib.ListN.{length, take, drop, set, length-set}
+use lib.ListN.{take, drop, set, length-set}
 use Rattle.std.proofs.shelf.Lists.{take-more-set, drop-set-lt, drop-drop}
 use Rattle.meaning.specs.Calls.{each-class}
 use Rattle.store.specs.Whole.{house}
@@ -24,8 +24,8 @@ pub loop-class-again : need.loop-class-again
 loop-class-again c =
     let bs = house (c .args .m .now) .bookings in (
       take-more-set (c .loop-class .sold) (c .loop-class .class) (c .from .result) (omega (arith, c .loop-class .inv .2, c .leg-classes .ensures .fine .classes))
-      ∙ (λ d. c .loop-class .inv .0 d ++ ((c .from .ensures ∙ c .taken .ensures .is) d ∷ []))
-      ∙ sym (each-more bs (c .args .leg) (c .loop-class .class)),
+          ∙ (λ d. c .loop-class .inv .0 d ++ ((c .from .ensures ∙ c .taken .ensures .is) d ∷ []))
+          ∙ sym (each-more bs (c .args .leg) (c .loop-class .class)),
       one-more (c .loop-class .sold) (c .args .sold .now) (c .loop-class .class) (c .from .result) (c .loop-class .inv .1),
       omega (arith, length-set (c .loop-class .sold) (c .loop-class .class) (c .from .result), c .loop-class .inv .2),
     )

@@ -1,10 +1,5 @@
 -- The checks of a price in their order.
-use mathlib.Core.Path.{_≡_, sym, _∙_}
-use mathlib.Core.Bool.{true, false}
-use Prim.Native.Nat.{ℕ, _<_}
-use native.Mathlib.Omega.{arith}
-use lib.ListN.{length, getD}
-use Rattle.meaning.specs.Calls.{price-of, good-fields}
+use mathlib.Core.Path.{sym}
 use Rattle.store.specs.Whole.{house}
 use Rattle.checks.proofs.Steps.{there-tells}
 use Rattle.questions.proofs.Asked.{price-range, legs-not-there, not-following, not-apart, no-fare, so-dear}
