@@ -10,7 +10,7 @@ ghost use mathlib.Core.Path.{_≡_};
 ghost use Prim.Native.Nat.{ℕ, suc, _+_, _*_, _^_, _<_, _≤_};
 ghost use lib.ListN.{length, getD, drop};
 ghost use Rattle.meaning.specs.Lines.{pick, cheaper, plus, piece, cost-in, cost};
-ghost use Rattle.pricing.specs.Prices.{There, coded, fits, stretch};
+ghost use Rattle.pricing.specs.Prices.{Best-way, There, coded, fits, stretch};
 ghost use Rattle.store.specs.Whole.{Sound, house};
 use records::Fare;
 use store::Memory;
@@ -113,12 +113,14 @@ fn cheapest(m: &Memory, class: u32, journey: &[u32]) -> Option<u64>
 }
 
 // The price of a seat on a journey in a class, if there is a way to cut it into pieces that have
-// fares: the meaning's `cost`. It is at most 800,000,000.
+// fares: the meaning's `cost`. In the words of those who pay: some way costs just that, and none
+// costs less. It is at most 800,000,000.
 pub fn price(m: &Memory, class: u32, journey: &[u32]) -> Option<u64>
     requires sound { ⌜ Sound (now m) ⌝ }
     requires few { ⌜ length (now journey) ≤ 8 ⌝ }
     requires there { ⌜ There (house (now m) .legs) (now journey) ⌝ }
     ensures value { λ r. ⌜ coded r ≡ cost (house (now (m .entry)) .fares) (house (now (m .entry)) .legs) class (now (journey .entry)) ⌝ }
+    ensures best { λ r. ⌜ Best-way (house (now (m .entry)) .fares) (house (now (m .entry)) .legs) class (now (journey .entry)) r ⌝ }
     ensures bound { λ r. ⌜ coded r ≤ 800000001 ⌝ }
 {
     cheapest(m, class, journey)

@@ -10,5 +10,5 @@ use Rattle.pricing.proofs.piece_price.Given as given
 abbrev pub Inv-loop-k : given.InvT-loop-k
 Inv-loop-k l =
     (cheaper (coded (l .best)) (piece (drop (l .k) (house (l .m) .fares)) (house (l .m) .legs) (l .class) (getD (l .part) 0 0) (drop 1 (l .part)))
-      ≡ piece (house (l .m) .fares) (house (l .m) .legs) (l .class) (getD (l .part) 0 0) (drop 1 (l .part)))
+    ≡ piece (house (l .m) .fares) (house (l .m) .legs) (l .class) (getD (l .part) 0 0) (drop 1 (l .part)))
     × (coded (l .best) ≤ 100000001)
