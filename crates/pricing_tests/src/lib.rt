@@ -75,12 +75,13 @@ mod tests {
         Ok(price(m, class, journey))
     }
 
-    // The price of a journey in a house with just these fares.
-    fn price_in(
+    // The price of a journey in a house with just these fares is as expected.
+    fn costs(
         fares: &[(u32, u32, u32, u32, u32)],
         class: u32,
         journey: &[u32],
-    ) -> Result<Option<u64>, Fail> {
+        expected: Option<u64>,
+    ) -> Result<(), Fail> {
         let mut leg_words = [0; 1280];
         let mut fare_words = [0; 480];
         let mut booking_words = [0; 22];
@@ -101,7 +102,7 @@ mod tests {
         );
         add_legs(&mut m)?;
         file(&mut m, fares)?;
-        ask(&m, class, journey)
+        check_eq(ask(&m, class, journey)?, expected)
     }
 
     // 1. Leg by leg 50 + 40 = 90; one fare for both legs costs 80.
@@ -116,8 +117,8 @@ mod tests {
             (11, 12, 2, 1, 40),
             (10, 12, 2, 2, 95),
         ];
-        check_eq(price_in(&fares, 1, &[0, 1])?, Some(80))?;
-        check_eq(price_in(&fares, 2, &[0, 1])?, Some(90))
+        costs(&fares, 1, &[0, 1], Some(80))?;
+        costs(&fares, 2, &[0, 1], Some(90))
     }
 
     // 3. Leg by leg 30 + 30 + 30 = 90; the first two as one 55 + 30 = 85; the last two as one
@@ -131,7 +132,7 @@ mod tests {
             (10, 12, 1, 2, 55),
             (11, 13, 1, 2, 45),
         ];
-        check_eq(price_in(&fares, 1, &[0, 1, 2])?, Some(75))
+        costs(&fares, 1, &[0, 1, 2], Some(75))
     }
 
     // 4. The longest piece first 100 + 100 = 200; the shortest first 20 + 50 = 70.
@@ -143,7 +144,7 @@ mod tests {
             (10, 11, 1, 1, 20),
             (11, 14, 1, 3, 50),
         ];
-        check_eq(price_in(&fares, 1, &[0, 1, 2, 3])?, Some(70))
+        costs(&fares, 1, &[0, 1, 2, 3], Some(70))
     }
 
     // 5. Leg by leg 50 + 40 = 90; a fare for up to eight legs is good for these two, 60.
@@ -161,9 +162,9 @@ mod tests {
             (12, 14, 1, 3, 11),
             (10, 12, 1, 1, 99),
         ];
-        check_eq(price_in(&fares, 1, &[0, 1])?, Some(60))?;
-        check_eq(price_in(&fares, 1, &[2, 3])?, Some(11))?;
-        check_eq(price_in(&fares, 1, &[9])?, Some(60))
+        costs(&fares, 1, &[0, 1], Some(60))?;
+        costs(&fares, 1, &[2, 3], Some(11))?;
+        costs(&fares, 1, &[9], Some(60))
     }
 
     // 8. Five legs at 20 make 100. In two pieces: two and three legs 30 + 50 = 80, three and two
@@ -182,7 +183,7 @@ mod tests {
             (10, 13, 1, 3, 40),
             (13, 15, 1, 2, 35),
         ];
-        check_eq(price_in(&fares, 1, &[0, 1, 2, 3, 4])?, Some(75))
+        costs(&fares, 1, &[0, 1, 2, 3, 4], Some(75))
     }
 
     // 9. Six legs in threes 40 + 40 = 80; in twos 25 + 25 + 25 = 75.
@@ -202,8 +203,8 @@ mod tests {
             (10, 13, 2, 3, 35),
             (13, 16, 2, 3, 35),
         ];
-        check_eq(price_in(&fares, 1, &[0, 1, 2, 3, 4, 5])?, Some(75))?;
-        check_eq(price_in(&fares, 2, &[0, 1, 2, 3, 4, 5])?, Some(70))
+        costs(&fares, 1, &[0, 1, 2, 3, 4, 5], Some(75))?;
+        costs(&fares, 2, &[0, 1, 2, 3, 4, 5], Some(70))
     }
 
     // 11. The first two legs cost 1 as one piece, but there is no fare from 12 on; so it is
@@ -211,16 +212,16 @@ mod tests {
     #[test]
     fn a_cheap_beginning_leads_nowhere() -> Result<(), Fail> {
         let fares = [(10, 12, 1, 2, 1), (10, 11, 1, 1, 40), (11, 13, 1, 2, 45)];
-        check_eq(price_in(&fares, 1, &[0, 1, 2])?, Some(85))
+        costs(&fares, 1, &[0, 1, 2], Some(85))
     }
 
     // 12. There and back, over legs 0, 1 and 8: 80 + 45 = 125; one fare from 10 to 10 costs 120.
     #[test]
     fn there_and_back() -> Result<(), Fail> {
         let fares = [(10, 12, 1, 2, 80), (12, 10, 1, 1, 45), (10, 10, 1, 3, 120)];
-        check_eq(price_in(&fares, 1, &[0, 1, 8])?, Some(120))?;
-        check_eq(price_in(&fares, 1, &[0, 1])?, Some(80))?;
-        check_eq(price_in(&fares, 1, &[8])?, Some(45))
+        costs(&fares, 1, &[0, 1, 8], Some(120))?;
+        costs(&fares, 1, &[0, 1], Some(80))?;
+        costs(&fares, 1, &[8], Some(45))
     }
 
     // 13. The fare for all four legs costs 1, but is for three at most. So 60 + 20 = 80 or
@@ -234,7 +235,7 @@ mod tests {
             (10, 11, 1, 1, 25),
             (11, 14, 1, 3, 30),
         ];
-        check_eq(price_in(&fares, 1, &[0, 1, 2, 3])?, Some(55))
+        costs(&fares, 1, &[0, 1, 2, 3], Some(55))
     }
 
     // 14. Eight legs. Each for itself 8 x 10 = 80, all as one 50, halves 35 + 37 = 72, two, four and
@@ -259,8 +260,8 @@ mod tests {
             (12, 16, 1, 4, 20),
             (16, 18, 1, 2, 12),
         ];
-        check_eq(price_in(&fares, 1, &[0, 1, 2, 3, 4, 5, 6, 7])?, Some(47))?;
-        check_eq(price_in(&fares, 1, &[0, 1, 2, 3, 4, 5, 6])?, Some(45))
+        costs(&fares, 1, &[0, 1, 2, 3, 4, 5, 6, 7], Some(47))?;
+        costs(&fares, 1, &[0, 1, 2, 3, 4, 5, 6], Some(45))
     }
 
     // Both legs as one for 90, or 50 + 40; three legs for 30 each, or 60 + 30, 30 + 60 and 90; two
@@ -280,9 +281,9 @@ mod tests {
             (10, 11, 3, 1, 7),
             (10, 11, 3, 2, 7),
         ];
-        check_eq(price_in(&fares, 1, &[0, 1])?, Some(90))?;
-        check_eq(price_in(&fares, 2, &[0, 1, 2])?, Some(90))?;
-        check_eq(price_in(&fares, 3, &[0])?, Some(7))
+        costs(&fares, 1, &[0, 1], Some(90))?;
+        costs(&fares, 2, &[0, 1, 2], Some(90))?;
+        costs(&fares, 3, &[0], Some(7))
     }
 
     // Of three fares for a leg the cheapest, wherever it stands among them.
@@ -299,10 +300,10 @@ mod tests {
             (12, 13, 1, 1, 65),
             (12, 13, 1, 1, 60),
         ];
-        check_eq(price_in(&fares, 1, &[0])?, Some(60))?;
-        check_eq(price_in(&fares, 1, &[1])?, Some(60))?;
-        check_eq(price_in(&fares, 1, &[2])?, Some(60))?;
-        check_eq(price_in(&fares, 1, &[0, 1, 2])?, Some(180))
+        costs(&fares, 1, &[0], Some(60))?;
+        costs(&fares, 1, &[1], Some(60))?;
+        costs(&fares, 1, &[2], Some(60))?;
+        costs(&fares, 1, &[0, 1, 2], Some(180))
     }
 
     // A fare from 10 to 12 for 10 is for one leg only: straight on leg 9 it is taken, over legs 0 and 1
@@ -317,10 +318,10 @@ mod tests {
             (10, 12, 2, 2, 70),
             (10, 18, 3, 7, 1),
         ];
-        check_eq(price_in(&fares, 1, &[0, 1])?, Some(90))?;
-        check_eq(price_in(&fares, 1, &[9])?, Some(10))?;
-        check_eq(price_in(&fares, 2, &[0, 1])?, Some(70))?;
-        check_eq(price_in(&fares, 3, &[0, 1, 2, 3, 4, 5, 6, 7])?, None)
+        costs(&fares, 1, &[0, 1], Some(90))?;
+        costs(&fares, 1, &[9], Some(10))?;
+        costs(&fares, 2, &[0, 1], Some(70))?;
+        costs(&fares, 3, &[0, 1, 2, 3, 4, 5, 6, 7], None)
     }
 
     // Leg by leg 50 + 40 = 90 in class 1. Cheaper ones are for class 2, or end at 13, or begin at 9, or
@@ -335,31 +336,28 @@ mod tests {
             (9, 12, 1, 2, 10),
             (12, 10, 1, 2, 10),
         ];
-        check_eq(price_in(&fares, 1, &[0, 1])?, Some(90))?;
-        check_eq(price_in(&fares, 2, &[0, 1])?, Some(10))?;
-        check_eq(price_in(&fares, 2, &[0])?, None)?;
-        check_eq(price_in(&fares, 0, &[0, 1])?, None)
+        costs(&fares, 1, &[0, 1], Some(90))?;
+        costs(&fares, 2, &[0, 1], Some(10))?;
+        costs(&fares, 2, &[0], None)?;
+        costs(&fares, 0, &[0, 1], None)
     }
 
     // No fares; none for one of the legs; none for part of what one fare is for. A fare that costs
     // nothing is a fare.
     #[test]
     fn no_fare() -> Result<(), Fail> {
-        check_eq(price_in(&[], 1, &[0])?, None)?;
+        costs(&[], 1, &[0], None)?;
         let fares = [
             (10, 11, 1, 1, 50),
             (10, 18, 2, 8, 100_000_000),
             (10, 11, 3, 1, 0),
             (11, 12, 3, 1, 0),
         ];
-        check_eq(price_in(&fares, 1, &[0, 1])?, None)?;
-        check_eq(price_in(&fares, 1, &[0])?, Some(50))?;
-        check_eq(
-            price_in(&fares, 2, &[0, 1, 2, 3, 4, 5, 6, 7])?,
-            Some(100_000_000),
-        )?;
-        check_eq(price_in(&fares, 2, &[0, 1, 2, 3, 4, 5, 6])?, None)?;
-        check_eq(price_in(&fares, 3, &[0, 1])?, Some(0))
+        costs(&fares, 1, &[0, 1], None)?;
+        costs(&fares, 1, &[0], Some(50))?;
+        costs(&fares, 2, &[0, 1, 2, 3, 4, 5, 6, 7], Some(100_000_000))?;
+        costs(&fares, 2, &[0, 1, 2, 3, 4, 5, 6], None)?;
+        costs(&fares, 3, &[0, 1], Some(0))
     }
 
     // The largest price that there is: eight legs, 100,000,000 each.
@@ -375,9 +373,6 @@ mod tests {
             (16, 17, 1, 1, 100_000_000),
             (17, 18, 1, 1, 100_000_000),
         ];
-        check_eq(
-            price_in(&fares, 1, &[0, 1, 2, 3, 4, 5, 6, 7])?,
-            Some(800_000_000),
-        )
+        costs(&fares, 1, &[0, 1, 2, 3, 4, 5, 6, 7], Some(800_000_000))
     }
 }
