@@ -24,13 +24,13 @@ pub cheaper-none : (x : ℕ) → cheaper x 0 ≡ x
 cheaper-none zero = refl
 cheaper-none (suc x) = refl
 
--- of two numbers the lesser, either way round
+-- the cheaper of two, either way round
 pub cheaper-swap : (a b : ℕ) → cheaper a b ≡ cheaper b a
 cheaper-swap zero b = sym (cheaper-none b)
 cheaper-swap (suc a) zero = refl
 cheaper-swap (suc a) (suc b) = grind (arith, tells)
 
--- of three, in any order
+-- the cheapest of three, whichever two are compared first
 pub cheaper-three : (a b c : ℕ) → cheaper (cheaper a b) c ≡ cheaper a (cheaper b c)
 cheaper-three zero b c = refl
 cheaper-three (suc a) zero c = refl
@@ -47,11 +47,12 @@ cheaper-le (suc a) (suc b) r n e p q = go (ltb b a) e
     go true f = omega arith
     go false f = omega arith
 
--- nor is one that is there, or none
+-- a price that a test lets stand, as the meaning counts it
 pub pick-le : (t : Bool) (o p n : ℕ) → o ≡ pick t (suc p) 0 → p ≤ n → o ≤ n + 1
 pick-le true o p n e h = omega arith
 pick-le false o p n e h = omega arith
 
+-- the last of some legs, by its place behind the first
 last-at : (a : ℕ) (p : List ℕ) (n : ℕ) → n ≡ length p → last-of a p ≡ getD (a ∷ p) n 0
 unfolding last-of
 last-at a [] zero e = refl
@@ -87,6 +88,7 @@ abbrev pub to : List Fare → List Leg → ℕ → ℕ → List ℕ → ℕ → 
 to fs ls c n js zero = 0
 to fs ls c n js (suc k) = by-first fs ls c (λ v. cost-in n fs ls c v) (getD js 0 0) (drop 1 js) k
 
+-- the cheapest with a first piece of one leg more, as the meaning has it
 to-suc : (fs : List Fare) (ls : List Leg) (c n : ℕ) (js : List ℕ) (k : ℕ) →
     to fs ls c n js (suc k) ≡ cheaper (plus (piece fs ls c (getD js 0 0) (take k (drop 1 js))) (cost-in n fs ls c (drop k (drop 1 js)))) (to fs ls c n js k)
 unfolding by-first
