@@ -1,12 +1,14 @@
 -- Prices that may not be there, and which fares are for a stretch of a journey. Definitions only: nothing is assumed or proved here.
 use mathlib.Core.Bool.{Bool, _&&_}
 use mathlib.Core.List.{List}
-use Prim.Native.Nat.{ℕ, suc, _<_}
+use Prim.Native.Nat.{ℕ, suc, _<_, _≤_}
 use lib.Dec.{eqb, leb}
 use lib.ListN.{length, getD}
 use Rattle.std.specs.declared.option.Option.{Option}
 use Rattle.std.specs.declared.option.Option.the-variants.{None, Some}
 use Rattle.meaning.specs.Lines.{Leg, leg, last-of}
+use Rattle.meaning.specs.Lines as lines
+use Rattle.meaning.specs.Statements.{Way}
 use Rattle.records.specs.declared.Fare.{Fare}
 use Rattle.pricing.specs.declared.Stretch.{Stretch}
 
@@ -14,6 +16,11 @@ use Rattle.pricing.specs.declared.Stretch.{Stretch}
 abbrev pub coded : Option ℕ → ℕ
 coded None = 0
 coded (Some p) = suc p
+
+-- the price of a journey in the words of those who pay: some way to cut it costs just that, and none costs less; where there is no price, no way has fares
+abbrev pub Best-way : List lines.Fare → List Leg → ℕ → List ℕ → Option ℕ → Type 0
+Best-way fs ls c is None = (q : ℕ) → Way fs ls c is q → ⊥
+Best-way fs ls c is (Some p) = Way fs ls c is p × ((q : ℕ) → Way fs ls c is q → p ≤ q)
 
 -- all these legs are there
 abbrev pub There : List Leg → List ℕ → Type 0

@@ -3,14 +3,14 @@
 // over more legs than the fare allows; the price is the least sum over all ways to cut it. The
 // meaning's `cost` says the same of a house's fares and legs, and the answer here is that number.
 //
-// What it costs: a journey of n legs has its first piece cut off in n ways, and the legs left get
-// fewer with each piece, so at most 2^n - 1 pieces are looked up, 255 for 8 legs. A piece for which
-// there is no fare is not gone on with. Looking one up goes through all fares.
+// Work: a journey of n legs has its first piece cut off in n ways, and each leaves fewer legs to be
+// cut in turn, so at most 2^n - 1 pieces are looked up, 255 for 8 legs. Behind a piece for which there
+// is no fare nothing is looked up. Looking one up goes through all fares.
 ghost use mathlib.Core.Path.{_≡_};
-ghost use Prim.Native.Nat.{ℕ, suc, _+_, _*_, _^_, _<_, _≤_};
+ghost use Prim.Native.Nat.{ℕ, suc, _+_, _*_, _<_, _≤_};
 ghost use lib.ListN.{length, getD, drop};
-ghost use Rattle.meaning.specs.Lines.{pick, cheaper, plus, piece, cost-in, cost};
-ghost use Rattle.pricing.specs.Prices.{There, coded, fits, stretch};
+ghost use Rattle.meaning.specs.Lines.{pick, cheaper, piece, cost-in, cost};
+ghost use Rattle.pricing.specs.Prices.{Best-way, There, coded, fits, stretch};
 ghost use Rattle.store.specs.Whole.{Sound, house};
 use records::Fare;
 use store::Memory;
@@ -69,7 +69,7 @@ fn stretch_of(m: &Memory, class: u32, part: &[u32]) -> Stretch
     }
 }
 
-// The cheapest fare for some legs as one piece.
+// The cheapest fare for some legs as one piece, of all fares.
 fn piece_price(m: &Memory, class: u32, part: &[u32]) -> Option<u64>
     requires sound { ⌜ Sound (now m) ⌝ }
     requires some { ⌜ 0 < length (now part) ⌝ }
@@ -86,8 +86,9 @@ fn piece_price(m: &Memory, class: u32, part: &[u32]) -> Option<u64>
     best
 }
 
-// The cheapest over all ways to cut a journey: over each first piece, with the cheapest for the legs
-// left behind it. No legs cost nothing.
+// The cheapest over all ways to cut a journey: over each first piece, of one leg and so many more,
+// with the cheapest for the legs left behind it, which are fewer. No legs cost nothing. Each piece
+// costs at most 100,000,000, so the sums are far from running over.
 fn cheapest(m: &Memory, class: u32, journey: &[u32]) -> Option<u64>
     requires sound { ⌜ Sound (now m) ⌝ }
     requires few { ⌜ length (now journey) ≤ 8 ⌝ }
@@ -113,12 +114,15 @@ fn cheapest(m: &Memory, class: u32, journey: &[u32]) -> Option<u64>
 }
 
 // The price of a seat on a journey in a class, if there is a way to cut it into pieces that have
-// fares: the meaning's `cost`. It is at most 800,000,000.
+// fares: the meaning's `cost`. In the words of those who pay: some way costs just that, and none
+// costs less. It is at most 800,000,000. That there are at most 8 legs, and all of them there, is for
+// the layer above, which refuses other journeys first.
 pub fn price(m: &Memory, class: u32, journey: &[u32]) -> Option<u64>
     requires sound { ⌜ Sound (now m) ⌝ }
     requires few { ⌜ length (now journey) ≤ 8 ⌝ }
     requires there { ⌜ There (house (now m) .legs) (now journey) ⌝ }
     ensures value { λ r. ⌜ coded r ≡ cost (house (now (m .entry)) .fares) (house (now (m .entry)) .legs) class (now (journey .entry)) ⌝ }
+    ensures best { λ r. ⌜ Best-way (house (now (m .entry)) .fares) (house (now (m .entry)) .legs) class (now (journey .entry)) r ⌝ }
     ensures bound { λ r. ⌜ coded r ≤ 800000001 ⌝ }
 {
     cheapest(m, class, journey)

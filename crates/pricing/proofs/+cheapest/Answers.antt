@@ -1,12 +1,10 @@
 -- turn by turn a first piece of one leg more
 use native.Mathlib.Omega.{arith}
-use mathlib.Core.Path.{_≡_, refl, sym, ap, subst, _∙_}
-use mathlib.Core.List.{List}
-use Prim.Native.Nat.{ℕ, suc, _+_, _-_, _*_, _<_, _≤_}
-use lib.ListN.{length, getD, take, drop}
+use mathlib.Core.Path.{_≡_, refl, sym}
+use Prim.Native.Nat.{suc, _+_, _*_}
+use lib.ListN.{length}
 use denote.Ref.{now}
 use Rattle.std.proofs.shelf.Tests.{eqb-true, eqb-false}
-use Rattle.meaning.specs.Lines.{Leg, Fare, cheaper, plus, piece, cost-in}
 use Rattle.store.specs.Whole.{house}
 use Rattle.pricing.specs.Prices.{coded}
 use Rattle.pricing.proofs.Cuts.{cheaper-none, cheaper-le, to-more, cost-none, cost-some}
@@ -38,9 +36,8 @@ loop-more-again t c = (
   λ n h. to-more (house (c .args .m .now) .fares) (house (c .args .m .now) .legs) (c .args .class) n (c .args .journey .now) (c .loop-more .more) (now (c .split-at .result .0)) (now (c .split-at .result .1))
       (suc (c .in-Some .here)) (suc (c .in-Some-cheapest .then)) (coded (c .loop-more .best)) (coded (c .cheaper-of-best .result)) (c .split-at .ensures .front) (c .split-at .ensures .back) (c .in-Some .ensures tt .value)
       (c .in-Some-cheapest .ensures tt .value n (omega arith)) (c .loop-more .inv .0 n h) (c .cheaper-of-best .ensures),
-  subst (λ (z : ℕ). z ≤ length (c .args .journey .now) * 100000000 + 1) (sym (c .cheaper-of-best .ensures))
-      (cheaper-le (coded (c .loop-more .best)) (suc (c .in-Some .here + c .in-Some-cheapest .then)) (length (c .args .journey .now) * 100000000 + 1) (c .loop-more .inv .1)
-      (omega (arith, c .in-Some .ensures tt .bound, c .in-Some-cheapest .ensures tt .bound))),
+  cheaper-le (coded (c .loop-more .best)) (suc (c .in-Some .here + c .in-Some-cheapest .then)) (coded (c .cheaper-of-best .result)) (length (c .args .journey .now) * 100000000 + 1) (c .cheaper-of-best .ensures) (c .loop-more .inv .1)
+      (omega (arith, c .in-Some .ensures tt .bound, c .in-Some-cheapest .ensures tt .bound)),
 )
 
 pub returns : need.returns

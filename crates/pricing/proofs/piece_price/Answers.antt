@@ -1,15 +1,13 @@
 -- turn by turn one fare more is gone through
 use native.Mathlib.Omega.{arith}
-use mathlib.Core.Path.{_≡_, sym, ap, subst, _∙_}
 use mathlib.Core.List.{List}
-use Prim.Native.Nat.{ℕ, suc, _≤_}
-use lib.ListN.{length, getD, drop}
-use Rattle.meaning.specs.Lines.{Leg, Fare, pick, piece}
+use Prim.Native.Nat.{ℕ}
+use lib.ListN.{getD, drop}
+use Rattle.meaning.specs.Lines.{Leg, Fare}
 use Rattle.records.specs.Means.{fare-means}
 use Rattle.store.specs.Whole.{house}
-use Rattle.pricing.specs.declared.Stretch.{Stretch}
-use Rattle.pricing.specs.Prices.{coded, fits, stretch}
-use Rattle.pricing.proofs.Cuts.{cheaper-le, pick-le, piece-more, piece-all}
+use Rattle.pricing.specs.Prices.{coded}
+use Rattle.pricing.proofs.Cuts.{cheaper-le, pick-le, piece-more, piece-all, asked-piece}
 use Rattle.pricing.proofs.piece_price.Needs as need
 
 pub loop-k-again : need.loop-k-again
@@ -17,13 +15,17 @@ loop-k-again c =
     let ls : List Leg = house (c .args .m .now) .legs in
     let fs : List Fare = house (c .args .m .now) .fares in
     let p : List ℕ = c .args .part .now in
+<<<<<<< HEAD
     let k : ℕ = c .loop-k .k in
     let asked : coded (c .offer .result) ≡ pick (fits (c .fare .result) (stretch ls (c .args .class) (getD p 0 0) (drop 1 p))) (suc (c .fare .result .price)) 0 =
     c .offer .ensures ∙ ap (λ (s : Stretch). pick (fits (c .fare .result) s) (suc (c .fare .result .price)) 0) (c .stretch-of-asked .ensures) in (
+=======
+    let k : ℕ = c .loop-k .k in (
+>>>>>>> pricing
       piece-more fs ls (c .args .class) (getD p 0 0) (drop 1 p) k (fare-means (c .fare .result)) (coded (c .loop-k .best)) (coded (c .offer .result)) (coded (c .cheaper-of-best .result)) _
-          (omega arith) (c .fare .ensures .means) asked (c .cheaper-of-best .ensures) (c .loop-k .inv .0),
-      subst (λ (z : ℕ). z ≤ 100000001) (sym (c .cheaper-of-best .ensures)) (cheaper-le (coded (c .loop-k .best)) (coded (c .offer .result)) 100000001 (c .loop-k .inv .1)
-          (subst (λ (z : ℕ). z ≤ 100000001) (sym (c .offer .ensures)) (pick-le _ (c .fare .result .price) 100000000 (c .fare .ensures .fine .price)))),
+          (omega arith) (c .fare .ensures .means) (asked-piece ls (c .args .class) (getD p 0 0) (drop 1 p) (c .fare .result) (c .stretch-of-asked .result) (coded (c .offer .result)) (c .stretch-of-asked .ensures) (c .offer .ensures)) (c .cheaper-of-best .ensures) (c .loop-k .inv .0),
+      cheaper-le (coded (c .loop-k .best)) (coded (c .offer .result)) (coded (c .cheaper-of-best .result)) 100000001 (c .cheaper-of-best .ensures) (c .loop-k .inv .1)
+          (pick-le _ (coded (c .offer .result)) (c .fare .result .price) 100000000 (c .offer .ensures) (c .fare .ensures .fine .price)),
     )
 
 pub returns : need.returns

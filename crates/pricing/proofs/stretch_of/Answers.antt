@@ -2,7 +2,7 @@
 use native.Mathlib.Omega.{arith}
 use mathlib.Core.Path.{_≡_, sym, ap, _∙_}
 use mathlib.Core.List.{List}
-use Prim.Native.Nat.{ℕ, suc, _-_}
+use Prim.Native.Nat.{ℕ, suc}
 use lib.ListN.{length, getD, drop}
 use Rattle.std.proofs.shelf.Lists.{length-drop}
 use Rattle.meaning.specs.Lines.{Leg, leg, last-of}
