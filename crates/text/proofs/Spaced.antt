@@ -1,6 +1,6 @@
 -- Numbers in a row, one more at the end.
 use mathlib.Core.Path.{_≡_, refl, sym, ap, _∙_}
-use mathlib.Core.List.{List, [], _∷_, _++_, append-assoc, append-nil}
+use mathlib.Core.List.{List, [], _∷_, _++_, append-assoc, append-nil, map}
 use Prim.Native.Nat.{ℕ, _+_, _<_, _≤_}
 use lib.ListN.{length, getD, take}
 use Rattle.std.proofs.shelf.Lists.{take-more, take-all}
@@ -21,3 +21,8 @@ spaced-none ns = refl
 
 pub spaced-all : (ns : List ℕ) (i : ℕ) → length ns ≤ i → spaced (take i ns) ≡ spaced ns
 spaced-all ns i h = ap spaced (take-all i ns h)
+
+-- numbers that are their own values
+pub own-values : (ns : List ℕ) → map (λ n. n) ns ≡ ns
+own-values [] = refl
+own-values (n ∷ ns) = ap (λ rest. n ∷ rest) (own-values ns)

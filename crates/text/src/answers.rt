@@ -1,5 +1,7 @@
 // Answers as lines, and numbers in a row.
+ghost use mathlib.Core.List.{map};
 ghost use mathlib.Core.Path.{_≡_};
+ghost use Prim.Native.Nat.{ℕ};
 ghost use denote.Ref.{now};
 ghost use Rattle.protocol.specs.Forms.{answer-of};
 ghost use Rattle.scan.specs.Words.{spaced};
@@ -13,7 +15,7 @@ use std::fmt;
 #[derive(Clone, Copy)]
 pub struct AnswerLine<'a> {
     pub answer: Answer,
-    pub list: &'a [u32],
+    pub list: &'a [u64],
 }
 
 // How a booking stands, in a word.
@@ -28,18 +30,46 @@ fn stands_word(stands: u64) -> &'static str
     }
 }
 
+// Numbers of several widths, written alike.
+pub trait Figure: Copy {
+    ghost value: { Self → ℕ };
+
+    fn figure(self) -> u64
+        ensures { λ r. ⌜ r ≡ value self ⌝ };
+}
+
+pub impl Figure for u32 as U32Figure {
+    ghost value = { λ n. n };
+
+    fn figure(self) -> u64 {
+        u64::from(self)
+    }
+}
+
+pub impl Figure for u64 as U64Figure {
+    ghost value = { λ n. n };
+
+    fn figure(self) -> u64 {
+        self
+    }
+}
+
 // Writes numbers, each behind a space.
-pub fn write_spaced<W: fmt::Write>(f: &mut fmt::Formatter<W>, numbers: &[u32]) -> fmt::Result
-    ensures { λ r. ⌜ Prints (W·Write .took) (now (f .entry)) r (spaced (now (numbers .entry))) (now (f .exit)) ⌝ }
+pub fn write_spaced<W: fmt::Write, N: Figure>(
+    f: &mut fmt::Formatter<W>,
+    numbers: &[N],
+) -> fmt::Result
+    ensures { λ r. ⌜ Prints (W·Write .took) (now (f .entry)) r (spaced (map (N·Figure .value) (now (numbers .entry)))) (now (f .exit)) ⌝ }
 {
-    for n in numbers {
+    for number in numbers {
+        let n = number.figure();
         write!(f, " {n}")?;
     }
     Ok(())
 }
 
 // Writes numbers with a space between two.
-fn write_row<W: fmt::Write>(f: &mut fmt::Formatter<W>, numbers: &[u32]) -> fmt::Result
+fn write_row<W: fmt::Write>(f: &mut fmt::Formatter<W>, numbers: &[u64]) -> fmt::Result
     ensures { λ r. ⌜ Prints (W·Write .took) (now (f .entry)) r (in-a-row (now (numbers .entry))) (now (f .exit)) ⌝ }
 {
     let Some((first, rest)) = numbers.split_first() else {

@@ -4,6 +4,7 @@ ghost use Rattle.std.specs.Of.Vec.{vec-items};
 ghost use Rattle.std.specs.declared.option.Option.the-variants.{Some};
 ghost use Rattle.text.specs.CallLines.{call-line};
 use crate::CallLine;
+use crate::answers::U32Figure;
 use crate::answers::write_spaced;
 use crate::list_word;
 use crate::verb;

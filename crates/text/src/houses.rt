@@ -4,6 +4,7 @@ ghost use denote.Ref.{now};
 ghost use lib.ListN.{length};
 ghost use Rattle.std.specs.declared.option.Option.the-variants.{Some};
 ghost use Rattle.text.specs.HouseLines.{House-told, Opens-back, house-in, house-line, numbers-of};
+use crate::answers::U32Figure;
 use crate::answers::write_spaced;
 use crate::is_word;
 use scan::read_numbers;

@@ -15,13 +15,7 @@ loop-k-again c =
     let ls : List Leg = house (c .args .m .now) .legs in
     let fs : List Fare = house (c .args .m .now) .fares in
     let p : List ℕ = c .args .part .now in
-<<<<<<< HEAD
-    let k : ℕ = c .loop-k .k in
-    let asked : coded (c .offer .result) ≡ pick (fits (c .fare .result) (stretch ls (c .args .class) (getD p 0 0) (drop 1 p))) (suc (c .fare .result .price)) 0 =
-    c .offer .ensures ∙ ap (λ (s : Stretch). pick (fits (c .fare .result) s) (suc (c .fare .result .price)) 0) (c .stretch-of-asked .ensures) in (
-=======
     let k : ℕ = c .loop-k .k in (
->>>>>>> pricing
       piece-more fs ls (c .args .class) (getD p 0 0) (drop 1 p) k (fare-means (c .fare .result)) (coded (c .loop-k .best)) (coded (c .offer .result)) (coded (c .cheaper-of-best .result)) _
           (omega arith) (c .fare .ensures .means) (asked-piece ls (c .args .class) (getD p 0 0) (drop 1 p) (c .fare .result) (c .stretch-of-asked .result) (coded (c .offer .result)) (c .stretch-of-asked .ensures) (c .offer .ensures)) (c .cheaper-of-best .ensures) (c .loop-k .inv .0),
       cheaper-le (coded (c .loop-k .best)) (coded (c .offer .result)) (coded (c .cheaper-of-best .result)) 100000001 (c .cheaper-of-best .ensures) (c .loop-k .inv .1)

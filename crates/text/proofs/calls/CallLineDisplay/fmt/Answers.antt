@@ -5,6 +5,7 @@ use Prim.Native.Nat.{_-_}
 use Rattle.protocol.specs.Forms.{field-count}
 use Rattle.std.proofs.Writes.{put-more, put-is}
 use Rattle.std.specs.Of.Vec.{vec-items}
+use Rattle.text.proofs.Spaced.{own-values}
 use Rattle.text.proofs.Printed.{line-listed, line-unlisted}
 use Rattle.text.proofs.calls.CallLineDisplay.fmt.Needs as need
 
@@ -20,7 +21,7 @@ returns-in-Continue-write-spaced-2 g c plain e =
     let s = c .in-Continue-write-spaced-2 .ensures tt (r .plain) refl in
     let n : c .in-Some .count - 0 ≡ field-count (c .parts-number .result .0) = omega (arith, c .in-Some .ensures tt .1) in
     let whole = line-listed (c .args .self .now .call) (c .parts-number .result .0) (c .parts-number .result .1) (vec-items (c .args .self .now .list)) (c .parts-number .ensures) (sym (c .if-takes-list .ensures tt)) in
-    put-is t _ _ _ _ (simp (c .verb .ensures, n, c .list-word-word .ensures, c .as-slice .ensures .value) whole) (put-more t _ _ _ _ _ p (put-more t _ _ _ _ _ q (put-more t _ _ _ _ _ r s)))
+    put-is t _ _ _ _ (simp (own-values, c .verb .ensures, n, c .list-word-word .ensures, c .as-slice .ensures .value) whole) (put-more t _ _ _ _ _ p (put-more t _ _ _ _ _ q (put-more t _ _ _ _ _ r s)))
 
 pub returns-else-takes-list : need.returns-else-takes-list
 returns-else-takes-list g c plain e =
@@ -29,4 +30,4 @@ returns-else-takes-list g c plain e =
     let q = c .in-Continue-write-spaced .ensures tt (p .plain) refl in
     let n : c .in-Some .count - 0 ≡ field-count (c .parts-number .result .0) = omega (arith, c .in-Some .ensures tt .1) in
     let whole = line-unlisted (c .args .self .now .call) (c .parts-number .result .0) (c .parts-number .result .1) (vec-items (c .args .self .now .list)) (c .parts-number .ensures) (sym (c .if-takes-list .ensures tt)) in
-    put-is t _ _ _ _ (simp (c .verb .ensures, n) whole) (put-more t _ _ _ _ _ p q)
+    put-is t _ _ _ _ (simp (own-values, c .verb .ensures, n) whole) (put-more t _ _ _ _ _ p q)
