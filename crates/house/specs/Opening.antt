@@ -1,4 +1,4 @@
--- Opening a house by the first line of a file of calls, and the stage in which no call can be done. Definitions only.
+-- Opening a house by the first line of a file of calls. Definitions only.
 use mathlib.Core.Path.{_≡_}
 use mathlib.Core.Bool.{Bool, true, false, _&&_, _||_}
 use mathlib.Core.Logic.{_⊎_}
@@ -17,10 +17,6 @@ use Rattle.std.specs.declared.result.Result.the-variants.{Ok, Err}
 use Rattle.text.specs.CallLines.{line-call}
 use Rattle.text.specs.HouseLines.{house-in, numbers-of}
 use Rattle.text.specs.declared.houses.HouseLine.{HouseLine}
-
--- no call can be done yet
-abbrev pub no-calls : ℕ → Bool
-no-calls k = false
 
 -- the program lends memory for so many legs, fares and bookings
 abbrev pub memory-suffices : HouseLine → Bool
@@ -61,21 +57,15 @@ pub record Refused-opening (bs : List ℕ) (bytes : ℕ) (a : Answer) : Type 0 w
   pub checked : opening-refused house bytes ≡ place + 1
   pub answered : a ≡ refused 3 place
 
--- one that opens a house
-pub record Opening (bs : List ℕ) (bytes : ℕ) : Type 0 where
-  pub house : HouseLine
-  pub reads : house-in bs ≡ got (numbers-of house) []
-  pub checked : opening-refused house bytes ≡ 0
+-- one that opens a house of these numbers
+pub record Opening (bs : List ℕ) (bytes : ℕ) (h : HouseLine) : Type 0 where
+  pub reads : house-in bs ≡ got (numbers-of h) []
+  pub checked : opening-refused h bytes ≡ 0
 
--- the first line of a file of calls opens the house, or is answered so
-abbrev pub First-line : Result (Unit {0}) Told → List ℕ → ℕ → Type 0
-First-line (Ok u) bs bytes = Opening bs bytes
+-- the first line of a file of calls opens a house, or is answered so
+abbrev pub First-line : Result HouseLine Told → List ℕ → ℕ → Type 0
+First-line (Ok h) bs bytes = Opening bs bytes h
 First-line (Err a) bs bytes = No-opening bs (answer-of a []) ⊎ Refused-opening bs bytes (answer-of a [])
-
--- the answer to a line, as the house of the meaning gives it at the stage in which no call can be done, whatever its limits are and whatever it holds; want of memory says nothing
-abbrev pub Line-answered : {E : Type 0} → Result Told E → List ℕ → Type 0
-Line-answered (Ok a) bs = (l : Limits) (h : House) → l .calls-can ≡ no-calls → answer-of a [] ≡ answer l h (line-call bs)
-Line-answered (Err e) bs = Unit {0}
 
 -- a line that is passed over: an empty one, or one that begins with #
 abbrev pub passed-over : List ℕ → Bool

@@ -1,24 +1,35 @@
 // The program `house PAGES ACTS CALLS [TEAR ...]`: plays the calls of a file on a house, and prints
-// each answer as a line. It is thin: lines are read and printed by the crate `text`. No call can be
-// done at this stage, so the pages are looked at and left as they are.
+// each answer as a line. It is thin: lines are read and printed by the crate `text`, and calls are done
+// by the crate `calls`, on memory that is lent for one run. The pages are looked at, and left as they
+// are: a house is not kept on them yet.
+ghost use Rattle.meaning.specs.Statements.{Reached};
+ghost use Rattle.store.specs.Whole.{Sound, house};
+ghost use Rattle.calls.specs.Stage.{stage};
+
 mod answering;
 mod arguments;
 mod opening;
 
-use answering::answer_to;
+use answering::answer_line;
 use answering::is_passed_over;
 use arguments::Arguments;
 use arguments::Misuse;
 use arguments::MisuseDisplay;
 use arguments::read_arguments;
-use opening::open;
+use limits::Limits;
+use limits::Sizes;
+use opening::open_house;
 use protocol::Answer;
+use questions::Reply;
 use scan::read_line;
 use std::env;
 use std::fs;
 use std::io;
+use store::Memory;
+use store::open;
 use text::answers::AnswerLine;
 use text::answers::AnswerLineDisplay;
+use text::houses::HouseLine;
 
 // The program ends with status 1.
 #[derive(Clone, Copy)]
@@ -26,11 +37,11 @@ struct Failed;
 
 // Prints an answer, unless it is the act in which power fails. Gives how many acts are left then,
 // where power did not fail.
-fn say(rt: &LibcRuntime, acts: u64, answer: Answer) -> io::Result<Option<u64>> {
+fn say(rt: &LibcRuntime, acts: u64, answer: Answer, list: &[u64]) -> io::Result<Option<u64>> {
     if acts == 1 {
         return Ok(None);
     }
-    let line = AnswerLine { answer, list: &[] };
+    let line = AnswerLine { answer, list };
     println!(rt, "{line}")?;
     Ok(Some(acts.saturating_sub(1)))
 }
@@ -44,10 +55,13 @@ fn pages_length(rt: &LibcRuntime, path: &str) -> io::Result<u64> {
     }
 }
 
-// Plays the lines of a file of calls: the first opens the house, and every other is a call.
-fn play(rt: &LibcRuntime, text: &[u8], bytes: u64, power: u64) -> io::Result<()> {
+// Plays the calls of a text on a house, until power fails.
+fn play_calls(rt: &LibcRuntime, m: &mut Memory, text: &[u8], power: u64) -> io::Result<()>
+    requires sound { ⌜ Sound (now m) ⌝ }
+    requires reached { ⌜ Reached (stage (now m)) (house (now m)) ⌝ }
+{
     let mut acts = power;
-    let mut opened = false;
+    let mut sold = [0; 26];
     let mut rest = text;
     while !rest.is_empty() {
         let next = read_line(rest);
@@ -55,36 +69,82 @@ fn play(rt: &LibcRuntime, text: &[u8], bytes: u64, power: u64) -> io::Result<()>
         if is_passed_over(next.line) {
             continue;
         }
-        let answer = if opened {
-            answer_to(rt.alloc(), next.line)?
-        } else {
-            match open(next.line, bytes) {
-                Ok(()) => {
-                    opened = true;
-                    continue;
-                }
-                Err(refusal) => {
-                    let _ = say(rt, acts, refusal)?;
-                    return Ok(());
-                }
-            }
-        };
-        match say(rt, acts, answer)? {
+        let reply = answer_line(rt.alloc(), m, next.line, &mut sold)?;
+        let listed = reply.listed;
+        match say(rt, acts, reply.answer, &sold[0..listed])? {
             Some(left) => acts = left,
             None => return Ok(()),
         }
     }
-    if !opened {
-        // A file with no first line: it is too short at once.
+    Ok(())
+}
+
+// Plays the calls of a text on a new house, in memory that is lent for it.
+fn play_house(rt: &LibcRuntime, house: HouseLine, text: &[u8], power: u64) -> io::Result<()> {
+    let limits = Limits {
+        gap: house.gap,
+        hold: house.hold,
+        legs: house.legs,
+        fares: house.fares,
+        bookings: house.bookings,
+    };
+    let mut leg_words = vec![in rt.alloc(); 0u32; 32 * 128]?;
+    let mut fare_words = vec![in rt.alloc(); 0u32; 32 * 24]?;
+    let mut booking_words = vec![in rt.alloc(); 0u32; 128 * 22]?;
+    let mut all_sums = vec![in rt.alloc(); 0u64; 128]?;
+    let legs = leg_words.as_mut_slice();
+    let fares = fare_words.as_mut_slice();
+    let bookings = booking_words.as_mut_slice();
+    let sums = all_sums.as_mut_slice();
+    let sizes = Sizes {
+        legs: legs.len(),
+        fares: fares.len(),
+        bookings: bookings.len(),
+        sums: sums.len(),
+    };
+    let None = limits.misfit(&sizes) else {
         let _ = say(
             rt,
-            acts,
+            power,
             Answer::Refused {
-                refusal: 1,
+                refusal: 3,
                 place: 0,
             },
+            &[],
         )?;
+        return Ok(());
+    };
+    let mut m = open(limits, legs, fares, bookings, sums);
+    play_calls(rt, &mut m, text, power)
+}
+
+// Plays a file of calls: its first line opens the house.
+fn play(rt: &LibcRuntime, text: &[u8], bytes: u64, power: u64) -> io::Result<()> {
+    let mut rest = text;
+    while !rest.is_empty() {
+        let next = read_line(rest);
+        rest = next.rest;
+        if is_passed_over(next.line) {
+            continue;
+        }
+        match open_house(next.line, bytes) {
+            Ok(house) => return play_house(rt, house, rest, power),
+            Err(refusal) => {
+                let _ = say(rt, power, refusal, &[])?;
+                return Ok(());
+            }
+        }
     }
+    // A file with no first line: it is too short at once.
+    let _ = say(
+        rt,
+        power,
+        Answer::Refused {
+            refusal: 1,
+            place: 0,
+        },
+        &[],
+    )?;
     Ok(())
 }
 

@@ -30,7 +30,7 @@ pub fn check_opening(house: HouseLine, bytes: u64) -> Result<(), u64>
 }
 
 // Opens the house by its line; or the refusal that is answered.
-pub fn open(line: &[u8], bytes: u64) -> Result<(), Answer>
+pub fn open_house(line: &[u8], bytes: u64) -> Result<HouseLine, Answer>
     ensures { λ r. ⌜ First-line r (now (line .entry)) bytes ⌝ }
 {
     let house = match read_house(line) {
@@ -41,7 +41,7 @@ pub fn open(line: &[u8], bytes: u64) -> Result<(), Answer>
         }),
     };
     match check_opening(house, bytes) {
-        Ok(()) => Ok(()),
+        Ok(()) => Ok(house),
         Err(place) => Err(Answer::Refused { refusal: 3, place }),
     }
 }
