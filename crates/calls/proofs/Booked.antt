@@ -1,20 +1,18 @@
 -- What a booking is answered, and what it leaves, by the ways that its checks can go.
 use mathlib.Core.Path.{_≡_, refl, sym, ap, ap₂, _∙_}
 use mathlib.Core.Bool.{Bool, true, false, _&&_}
-use mathlib.Core.List.{List, [], _∷_, _++_}
+use mathlib.Core.List.{List, [], _∷_}
 use Prim.Native.Nat.{ℕ, suc, _+_, _<_, _≤_}
 use native.Mathlib.Omega.{arith}
 use lib.Dec.{eqb, ltb}
-use lib.ListN.{length, getD, take}
+use lib.ListN.{length, getD}
 use Rattle.std.proofs.shelf.Tests.{lt-ltb, le-ltb, le-leb, eq-eqb, ne-eqb, and-from, and-left, and-right}
-use Rattle.std.proofs.shelf.Lists.{getD-push, length-push, take-at}
+use Rattle.std.proofs.shelf.Lists.{length-push}
 use Rattle.meaning.specs.Lines.{pick, leg, follows, cost}
-use Rattle.meaning.specs.House.{Booking, House, first-leg, with-bookings}
+use Rattle.meaning.specs.House.{Booking, House, first-leg}
 use Rattle.meaning.specs.Calls.{books, refused, two, good-fields, turned-by, place, changed, told, all-there, no-twice, the-booking}
-use Rattle.meaning.specs.Statements.{some-could}
-use Rattle.meaning.proofs.Serve.{none}
 use Rattle.limits.specs.declared.Limits.{Limits}
-use Rattle.seating.specs.Serving.{Newcomer, all-served, last}
+use Rattle.seating.specs.Serving.{all-served, last}
 use Rattle.store.specs.Whole.{plus-booking}
 use Rattle.checks.specs.Meant.{Meant}
 use Rattle.checks.proofs.Verdicts.{refuses, takes}
@@ -33,18 +31,6 @@ pub books-range : (c n : ℕ) (is : List ℕ) → Asks c n is → good-fields (b
 unfolding good-fields
 books-range c n is a =
     and-from _ _ (and-from _ _ (lt-ltb c 26 (a .class)) (and-from _ _ (le-leb 1 n (a .least)) (le-leb n 9 (a .seats)))) (and-from _ _ (le-leb 1 (length is) (a .some)) (le-leb (length is) 8 (a .few)))
-
--- the newest is the only one that can be served
-pub newcomer : (h : House) (b : Booking) → b .stands ≡ 0 → some-could h (h .bookings) ≡ false → Newcomer (plus-booking h b)
-newcomer h b z f =
-    let n : length (h .bookings ++ (b ∷ [])) ≡ length (h .bookings) + 1 = length-push (h .bookings) b in
-    let k : last (plus-booking h b) ≡ length (h .bookings) = omega arith in
-    let front : take (last (plus-booking h b)) (h .bookings ++ (b ∷ [])) ≡ h .bookings = ap (λ m. take m (h .bookings ++ (b ∷ []))) k ∙ take-at (h .bookings) (b ∷ []) (length (h .bookings)) refl in
-    record {
-      some = omega arith;
-      waits = ap (λ m. getD (h .bookings ++ (b ∷ [])) m none .stands) k ∙ ap (λ (x : Booking). x .stands) (getD-push (h .bookings) b none (length (h .bookings)) refl) ∙ z;
-      idle = ap (λ bs. some-could (with-bookings h bs) bs) front ∙ f;
-    }
 
 module _ (l : Limits) (h : House) (c n : ℕ) (is : List ℕ) (g : good-fields (books c n is) ≡ true) where
   -- the checks of a booking in their order

@@ -1,20 +1,18 @@
 -- Opening a house by the first line of a file of calls. Definitions only.
 use mathlib.Core.Path.{_≡_}
-use mathlib.Core.Bool.{Bool, true, false, _&&_, _||_}
+use mathlib.Core.Bool.{Bool, true, _&&_, _||_}
 use mathlib.Core.Logic.{_⊎_}
 use mathlib.Core.List.{List, [], _∷_}
 use Prim.Native.Nat.{ℕ, _+_, _*_, _/_, _-_}
 use lib.Dec.{eqb, leb}
 use lib.ListN.{length}
 use Rattle.meaning.specs.Lines.{pick}
-use Rattle.meaning.specs.House.{House}
-use Rattle.meaning.specs.Calls.{Answer, refused, Limits, answer}
+use Rattle.meaning.specs.Calls.{Answer, refused}
 use Rattle.protocol.specs.Forms.{answer-of}
 use Rattle.protocol.specs.declared.Answer.{Answer as Told}
 use Rattle.scan.specs.Words.{got, bad}
 use Rattle.std.specs.declared.result.Result.{Result}
 use Rattle.std.specs.declared.result.Result.the-variants.{Ok, Err}
-use Rattle.text.specs.CallLines.{line-call}
 use Rattle.text.specs.HouseLines.{house-in, numbers-of}
 use Rattle.text.specs.declared.houses.HouseLine.{HouseLine}
 

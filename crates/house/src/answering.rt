@@ -3,7 +3,7 @@ ghost use mathlib.Core.Path.{_≡_};
 ghost use Prim.Native.Nat.{_≤_};
 ghost use Rattle.std.specs.Vec.{made};
 ghost use Rattle.meaning.specs.Statements.{Reached};
-ghost use Rattle.store.specs.Whole.{Lent, Sound, house};
+ghost use Rattle.store.specs.Whole.{Sound, house};
 ghost use Rattle.calls.specs.Stage.{stage};
 ghost use Rattle.house.specs.Opening.{passed-over};
 use calls::answer_row;

@@ -38,7 +38,8 @@ test-false b false e z = refl
 waits : Booking → ℕ
 waits b = pick (eqb (b .stands) 0) 1 0
 
-waiting : List Booking → ℕ
+-- how many wait
+pub waiting : List Booking → ℕ
 waiting [] = 0
 waiting (b ∷ bs) = waits b + waiting bs
 
@@ -54,7 +55,7 @@ waits-le b = go (eqb (b .stands) 0)
     go true = omega arith
     go false = omega arith
 
-waiting-le : (bs : List Booking) → waiting bs ≤ length bs
+pub waiting-le : (bs : List Booking) → waiting bs ≤ length bs
 unfolding waiting
 waiting-le [] = omega arith
 waiting-le (b ∷ bs) = omega (arith, waits-le b, waiting-le bs)
@@ -69,7 +70,8 @@ module _ (ls : List Leg) (u : ℕ) where
   abbrev pub held : List Booking → ℕ → List Booking
   held bs m = set bs m (stand (at bs m) 1 u)
 
-  waiting-held : (bs : List Booking) (m : ℕ) → m < length bs → at bs m .stands ≡ 0 → suc (waiting (held bs m)) ≡ waiting bs
+  -- each serving leaves one fewer
+  pub waiting-held : (bs : List Booking) (m : ℕ) → m < length bs → at bs m .stands ≡ 0 → suc (waiting (held bs m)) ≡ waiting bs
   unfolding waiting waits
   waiting-held [] m h z = absurd (omega arith)
   waiting-held (b ∷ bs) zero h z = omega (arith, waits-one b z)

@@ -22,7 +22,7 @@ pub not-true : (t u : Bool) → t ≡ false → (u ≡ true → t ≡ true) → 
 not-true t true e f = absurd (both-ways t e (f refl))
 not-true t false e f = refl
 
-could-from : (h : House) (bs : List Booking) → Idle (h .legs) (h .bookings) bs → some-could h bs ≡ false
+pub could-from : (h : House) (bs : List Booking) → Idle (h .legs) (h .bookings) bs → some-could h bs ≡ false
 unfolding some-could
 could-from h [] f = refl
 could-from h (b ∷ bs) f = or-from _ _ (go (eqb (b .stands) 0) refl) (could-from h bs (λ j. f (suc j)))

@@ -18,8 +18,8 @@ use Rattle.meaning.proofs.Room.{counts-waits, taken-push, taken-set, room-less}
 use Rattle.meaning.proofs.Waits.{not-true}
 use Rattle.records.specs.declared.Booking as code
 use Rattle.records.specs.Means.{booking-means}
-use Rattle.store.specs.Whole.{plus-booking, set-booking}
-use Rattle.seating.specs.Serving.{First, Newcomer, None-below, all-served, before-last, could, fits, held, last}
+use Rattle.store.specs.Whole.{plus-booking}
+use Rattle.seating.specs.Serving.{First, Newcomer, None-below, None-could, all-served, before-last, could, fits, held, last, newest-held}
 use Rattle.seating.proofs.Turns.{first-served, none-served}
 
 and-if : (s r : Bool) → (s ≡ true → r ≡ false) → (s && r) ≡ false
@@ -93,16 +93,16 @@ module _ (h : House) (f : Newcomer h) where
         ap (λ (n : ℕ). serve n (h .legs) (h .bookings) u) s ∙ first-served h (last h) u (last h) first ∙ none-served then (last h) u idle-then
 
   -- whether there is room for the last one, as memory has it, is whether it could be held
-  pub newest-fits : (b : code.Booking) (k : ℕ) (r : Bool) → k ≡ last h → booking-means b ≡ the-booking h k → r ≡ room (h .legs) (h .bookings) (take (b .count - 0) (b .legs)) (b .class) (b .seats) → r ≡ could h (last h)
-  newest-fits b k r e m q =
+  pub newest-fits : (b : code.Booking) (k n : ℕ) (r : Bool) → k ≡ last h → booking-means b ≡ the-booking h k → r ≡ room (h .legs) (h .bookings) (take (b .count - 0) (b .legs)) (b .class) n → n ≡ b .seats → r ≡ could h (last h)
+  newest-fits b k n r e m q seats =
       let all : b .count - 0 ≡ b .count = omega arith in
       let is : booking-means b ≡ newest = m ∙ ap (λ (v : ℕ). the-booking h v) e in
       let waits : eqb (b .stands) 0 ≡ true = eq-eqb (b .stands) 0 (ap (λ (v : Booking). v .stands) is ∙ f .waits) in
-      q ∙ ap (λ (v : ℕ). room (h .legs) (h .bookings) (take v (b .legs)) (b .class) (b .seats)) all
+      q ∙ ap (λ (v : ℕ). room (h .legs) (h .bookings) (take v (b .legs)) (b .class) n) all ∙ ap (λ (v : ℕ). room (h .legs) (h .bookings) (take (b .count) (b .legs)) (b .class) v) seats
       ∙ ap (λ (t : Bool). t && room (h .legs) (h .bookings) (take (b .count) (b .legs)) (b .class) (b .seats)) (sym waits) ∙ ap (λ (v : Booking). fits h v) is
 
   -- THE LEMMA: serving all is holding the last one if there is room for it, and nothing else
-  pub newest-alone : (u : ℕ) (g : House) (r : Bool) → could h (last h) ≡ r → g ≡ pick r (set-booking h (last h) (stand newest 1 u)) h → (g ≡ all-served h u) × (the-booking g (last h) .stands ≡ pick r 1 0)
+  pub newest-alone : (u : ℕ) (g : House) (r : Bool) → could h (last h) ≡ r → g ≡ newest-held h u r → (g ≡ all-served h u) × (the-booking g (last h) .stands ≡ pick r 1 0)
   newest-alone u g true e s = (
     s ∙ ap (λ (v : List Booking). with-bookings h v) (sym (held-alone u e)),
     ap (λ (v : House). the-booking v (last h) .stands) s ∙ ap (λ (b : Booking). b .stands) (getD-set-same (h .bookings) (last h) (stand newest 1 u) none (omega (arith, ends))),
@@ -113,7 +113,7 @@ module _ (h : House) (f : Newcomer h) where
   )
 
 -- a booking that comes where nobody waits for what is free, and waits, is such a newcomer
-pub newcomer : (h : House) (b : Booking) → some-could h (h .bookings) ≡ false → b .stands ≡ 0 → Newcomer (plus-booking h b)
+pub newcomer : (h : House) (b : Booking) → None-could h → b .stands ≡ 0 → Newcomer (plus-booking h b)
 newcomer h b e z =
     let n : length (h .bookings) ≡ last (plus-booking h b) = omega (arith, length-push (h .bookings) b) in
     let s : take (last (plus-booking h b)) (h .bookings ++ (b ∷ [])) ≡ h .bookings =
@@ -121,5 +121,5 @@ newcomer h b e z =
     record {
       some = omega (arith, length-push (h .bookings) b);
       waits = ap (λ (d : Booking). d .stands) (getD-push (h .bookings) b none (last (plus-booking h b)) n) ∙ z;
-      idle = subst (λ (v : List Booking). some-could (with-bookings h v) v ≡ false) (sym s) e;
+      idle = subst (λ (v : List Booking). None-could (with-bookings h v)) (sym s) e;
     }

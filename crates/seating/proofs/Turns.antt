@@ -1,23 +1,25 @@
 -- One serving after the other: what each finds, and that all of them together are the meaning's `serve`.
-use mathlib.Core.Path.{_≡_, refl, sym, ap, _∙_}
+use mathlib.Core.Path.{_≡_, refl, sym, ap, subst, _∙_}
 use mathlib.Core.Bool.{Bool, true, false, _&&_}
 use mathlib.Core.List.{List, [], _∷_, _++_}
-use Prim.Native.Nat.{ℕ, zero, suc, _+_, _-_, _<_, _≤_}
+use Prim.Native.Nat.{ℕ, zero, suc, _+_, _-_, _<_}
 use native.Mathlib.Omega.{arith}
 use lib.Dec.{eqb}
 use lib.ListN.{length, set}
 use Rattle.std.specs.declared.option.Option.{Option}
 use Rattle.std.specs.declared.option.Option.the-variants.{Some, None}
-use Rattle.std.proofs.shelf.Tests.{eqb-true, eq-eqb, and-parts}
+use Rattle.std.proofs.shelf.Tests.{eqb-true, and-parts}
 use Rattle.std.proofs.shelf.Lists.{append-assoc}
 use Rattle.meaning.specs.Lines.{pick, Leg}
 use Rattle.meaning.specs.House.{Booking, House, Served, nobody, served, room, serve-one, serve-on, serve, stand, with-bookings}
 use Rattle.meaning.specs.Calls.{the-booking}
-use Rattle.meaning.proofs.Serve.{at}
+use Rattle.meaning.proofs.Serve as serving
+use Rattle.meaning.proofs.Serve.{at, waiting, waiting-held, waiting-le}
+use Rattle.meaning.proofs.Waits.{could-from}
 use Rattle.store.specs.declared.Memory.{Memory}
 use Rattle.store.specs.Whole.{house, Sound, Lent, set-booking}
 use Rattle.store.proofs.Lents.{lent-none, lent-both}
-use Rattle.seating.specs.Serving.{None-below, First, Found, all-served, found-served, held, waiting}
+use Rattle.seating.specs.Serving.{None-below, None-could, One-serving, First, Found, all-served, held}
 
 module _ (ls : List Leg) (all : List Booking) (u : ℕ) where
   abbrev can : Booking → Bool
@@ -40,40 +42,22 @@ module _ (ls : List Leg) (all : List Booking) (u : ℕ) where
       ∙ ap served (append-assoc don (b ∷ []) (set bs k (stand (at bs k) 1 u)))
 
 -- what is found is what one serving serves
-pub found-one : (h : House) (r : Option ℕ) (u : ℕ) → Found h r → serve-one (h .legs) (h .bookings) (h .bookings) [] u ≡ found-served h u r
-found-one h None u f = one-none (h .legs) (h .bookings) u (h .bookings) [] f
-found-one h (Some k) u f = one-first (h .legs) (h .bookings) u (h .bookings) [] k (f .there) (f .can) (f .before)
+pub found-one : (h : House) (r : Option ℕ) → Found h r → One-serving h r
+found-one h None f u = one-none (h .legs) (h .bookings) u (h .bookings) [] f
+found-one h (Some k) f u = one-first (h .legs) (h .bookings) u (h .bookings) [] k (f .there) (f .can) (f .before)
 
 pub none-served : (h : House) (n u : ℕ) → None-below h (length (h .bookings)) → serve n (h .legs) (h .bookings) u ≡ h .bookings
 unfolding serve serve-on
 none-served h zero u f = refl
-none-served h (suc n) u f = ap (λ (s : Served). serve-on s (h .bookings) (λ cs. serve n (h .legs) cs u)) (found-one h None u f)
+none-served h (suc n) u f = ap (λ (s : Served). serve-on s (h .bookings) (λ cs. serve n (h .legs) cs u)) (found-one h None f u)
 
 pub first-served : (h : House) (n u k : ℕ) → First h k → serve (suc n) (h .legs) (h .bookings) u ≡ serve n (h .legs) (held h u k) u
 unfolding serve serve-on
-first-served h n u k f = ap (λ (s : Served). serve-on s (h .bookings) (λ cs. serve n (h .legs) cs u)) (found-one h (Some k) u f)
+first-served h n u k f = ap (λ (s : Served). serve-on s (h .bookings) (λ cs. serve n (h .legs) cs u)) (found-one h (Some k) f u)
 
 -- each serving leaves one fewer waiting
-waits-one : (s : ℕ) → s ≡ 0 → _≡_ {A = ℕ} (pick (eqb s 0) 1 0) 1
-waits-one s z = ap (λ (t : Bool). pick t 1 0) (eq-eqb s 0 z)
-
-waits-le : (t : Bool) → pick t 1 0 ≤ 1
-waits-le true = omega arith
-waits-le false = omega arith
-
-pub waiting-le : (bs : List Booking) → waiting bs ≤ length bs
-unfolding waiting
-waiting-le [] = omega arith
-waiting-le (b ∷ bs) = omega (arith, waits-le (eqb (b .stands) 0), waiting-le bs)
-
-waiting-held : (bs : List Booking) (k u : ℕ) → k < length bs → at bs k .stands ≡ 0 → waiting bs ≡ suc (waiting (set bs k (stand (at bs k) 1 u)))
-unfolding waiting
-waiting-held [] k u h z = absurd (omega arith)
-waiting-held (b ∷ bs) zero u h z = omega (arith, waits-one (b .stands) z)
-waiting-held (b ∷ bs) (suc k) u h z = omega (arith, waiting-held bs k u (omega arith) z)
-
 pub fewer-wait : (h : House) (k u : ℕ) → First h k → waiting (h .bookings) ≡ suc (waiting (held h u k))
-fewer-wait h k u f = waiting-held (h .bookings) k u (f .there) (eqb-true _ _ (and-parts (eqb (the-booking h k .stands) 0) _ (f .can) .0))
+fewer-wait h k u f = sym (waiting-held (h .legs) u (h .bookings) k (f .there) (eqb-true _ _ (and-parts (eqb (the-booking h k .stands) 0) _ (f .can) .0)))
 
 -- memory m on the way of being served, at n: what is left to serve is the same
 pub record On-the-way (m n : Memory) (u : ℕ) : Type 0 where
@@ -104,3 +88,7 @@ way-ends m n u w f =
     let y : (length bs - waiting bs) + waiting bs ≡ length bs = omega (arith, waiting-le bs) in
     w .same ∙ ap (λ (v : List Booking). with-bookings (house m) v)
     (sym (ap (λ (v : ℕ). serve v (house m .legs) bs u) (sym y) ∙ w .left (length bs - waiting bs) ∙ none-served (house n) _ u f))
+
+-- after all servings nobody waits for what is free
+pub served-idle : (h g : House) (u : ℕ) → g ≡ all-served h u → None-could g
+served-idle h g u e = subst None-could (sym e) (could-from (all-served h u) (all-served h u .bookings) (serving.all-served (h .legs) u (h .bookings)))

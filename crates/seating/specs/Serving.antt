@@ -1,14 +1,14 @@
 -- Who is served next, when all are served, and the booking that came last. Definitions only: nothing is assumed or proved here.
 use mathlib.Core.Path.{_≡_}
 use mathlib.Core.Bool.{Bool, true, false, _&&_}
-use mathlib.Core.List.{List, [], _∷_}
-use Prim.Native.Nat.{ℕ, _+_, _-_, _<_, _≤_}
+use mathlib.Core.List.{List, []}
+use Prim.Native.Nat.{ℕ, _-_, _<_, _≤_}
 use lib.Dec.{eqb}
 use lib.ListN.{length, take, set}
 use Rattle.std.specs.declared.option.Option.{Option}
 use Rattle.std.specs.declared.option.Option.the-variants.{Some, None}
 use Rattle.meaning.specs.Lines.{pick}
-use Rattle.meaning.specs.House.{House, Booking, Served, nobody, served, room, serve, stand, with-bookings}
+use Rattle.meaning.specs.House.{House, Booking, Served, nobody, served, room, serve, serve-one, stand, with-bookings}
 use Rattle.meaning.specs.Calls.{the-booking}
 use Rattle.meaning.specs.Statements.{some-could}
 
@@ -44,10 +44,13 @@ abbrev pub found-served : House → ℕ → Option ℕ → Served
 found-served h u None = nobody
 found-served h u (Some k) = served (held h u k)
 
--- how many of some bookings wait
-unfoldable pub waiting : List Booking → ℕ
-waiting [] = 0
-waiting (b ∷ bs) = pick (eqb (b .stands) 0) 1 0 + waiting bs
+-- what was found is what one serving serves, until whatever tick
+abbrev pub One-serving : House → Option ℕ → Type 0
+One-serving h r = (u : ℕ) → serve-one (h .legs) (h .bookings) (h .bookings) [] u ≡ found-served h u r
+
+-- nobody waits for what is free
+abbrev pub None-could : House → Type 0
+None-could h = some-could h (h .bookings) ≡ false
 
 -- ALL SERVED: the house where whoever waited was served, each held until tick u, until there is room for none that waits
 abbrev pub all-served : House → ℕ → House
@@ -61,8 +64,12 @@ last h = length (h .bookings) - 1
 abbrev pub before-last : House → House
 before-last h = with-bookings h (take (last h) (h .bookings))
 
+-- the last booking is held until tick u, or nothing changes
+abbrev pub newest-held : House → ℕ → Bool → House
+newest-held h u r = pick r (with-bookings h (held h u (last h))) h
+
 -- the last booking waits, and nobody waited for what was free before it came
 pub record Newcomer (h : House) : Type 0 where
   pub some : 1 ≤ length (h .bookings)
   pub waits : the-booking h (last h) .stands ≡ 0
-  pub idle : some-could (before-last h) (before-last h .bookings) ≡ false
+  pub idle : None-could (before-last h)

@@ -12,10 +12,10 @@ ghost use mathlib.Core.List.{[], _∷_};
 ghost use Prim.Native.Nat.{ℕ, _+_, _<_, min};
 ghost use lib.ListN.{getD, length};
 ghost use Rattle.meaning.specs.Lines.{pick};
-ghost use Rattle.meaning.specs.House.{room, serve-one, stand};
+ghost use Rattle.meaning.specs.House.{room};
 ghost use Rattle.meaning.specs.Calls.{most, the-booking};
-ghost use Rattle.seating.specs.Serving.{Found, Newcomer, all-served, fits, found-served, last};
-ghost use Rattle.store.specs.Whole.{Lent, Sound, house, set-booking};
+ghost use Rattle.seating.specs.Serving.{Found, Newcomer, None-could, One-serving, all-served, could, last, newest-held};
+ghost use Rattle.store.specs.Whole.{Lent, Sound, house};
 use records::Leg;
 use store::Memory;
 
@@ -86,7 +86,7 @@ pub fn free_seats(memory: &Memory, i: usize, class: u32) -> u32
 pub fn first_fit(memory: &Memory) -> Option<usize>
     requires { ⌜ Sound (now memory) ⌝ }
     ensures first { λ r. ⌜ Found (house (now (memory .entry))) r ⌝ }
-    ensures serves { λ r. ⌜ ((u : ℕ) → serve-one (house (now (memory .entry)) .legs) (house (now (memory .entry)) .bookings) (house (now (memory .entry)) .bookings) [] u ≡ found-served (house (now (memory .entry))) u r) ⌝ }
+    ensures serves { λ r. ⌜ One-serving (house (now (memory .entry))) r ⌝ }
 {
     'bookings: for k in 0..memory.booking_count() {
         let b = memory.booking(k);
@@ -112,6 +112,7 @@ pub fn first_fit(memory: &Memory) -> Option<usize>
 pub fn serve(memory: &mut Memory, until: u32)
     requires { ⌜ Sound (now memory) ⌝ }
     ensures house { λ _. ⌜ house (now (memory .exit)) ≡ all-served (house (now (memory .entry))) until ⌝ }
+    ensures idle { λ _. ⌜ None-could (house (now (memory .exit))) ⌝ }
     ensures sound { λ _. ⌜ Sound (now (memory .exit)) ⌝ }
     ensures lent { λ _. ⌜ Lent (now (memory .entry)) (now (memory .exit)) ⌝ }
 {
@@ -126,9 +127,10 @@ pub fn serve_newest(memory: &mut Memory, until: u32) -> bool
     requires sound { ⌜ Sound (now memory) ⌝ }
     requires newest { ⌜ Newcomer (house (now memory)) ⌝ }
     ensures house { λ _. ⌜ house (now (memory .exit)) ≡ all-served (house (now (memory .entry))) until ⌝ }
-    ensures room { λ r. ⌜ r ≡ fits (house (now (memory .entry))) (the-booking (house (now (memory .entry))) (last (house (now (memory .entry))))) ⌝ }
+    ensures idle { λ _. ⌜ None-could (house (now (memory .exit))) ⌝ }
+    ensures room { λ r. ⌜ r ≡ could (house (now (memory .entry))) (last (house (now (memory .entry)))) ⌝ }
     ensures stands { λ r. ⌜ the-booking (house (now (memory .exit))) (last (house (now (memory .entry)))) .stands ≡ pick r 1 0 ⌝ }
-    ensures only { λ r. ⌜ house (now (memory .exit)) ≡ pick r (set-booking (house (now (memory .entry))) (last (house (now (memory .entry)))) (stand (the-booking (house (now (memory .entry))) (last (house (now (memory .entry))))) 1 until)) (house (now (memory .entry))) ⌝ }
+    ensures only { λ r. ⌜ house (now (memory .exit)) ≡ newest-held (house (now (memory .entry))) until r ⌝ }
     ensures sound { λ _. ⌜ Sound (now (memory .exit)) ⌝ }
     ensures lent { λ _. ⌜ Lent (now (memory .entry)) (now (memory .exit)) ⌝ }
 {

@@ -8,13 +8,14 @@ use Rattle.meaning.specs.Calls.{the-booking}
 use Rattle.limits.specs.declared.Limits.{Limits}
 use Rattle.records.specs.Means.{booking-means}
 use Rattle.records.proofs.News.{booking-of-means}
+use Rattle.seating.proofs.Newest.{newcomer}
 use Rattle.seating.specs.Serving.{Newcomer, all-served, last}
 use Rattle.store.specs.Range.{Fine-booking}
 use Rattle.store.specs.Whole.{house, plus-booking}
 use Rattle.store.proofs.Lents.{lent-none, lent-both}
 use Rattle.store.proofs.Ranges.{new-booking-fine}
 use Rattle.checks.proofs.Steps.{there-tells}
-use Rattle.calls.proofs.Booked.{asked, books-range, newcomer, not-there, not-following, not-apart, has-left, no-fare, full, booked}
+use Rattle.calls.proofs.Booked.{asked, books-range, not-there, not-following, not-apart, has-left, no-fare, full, booked}
 use Rattle.calls.proofs.book_on.Needs as need
 
 pub returns-then-not-are-there : need.returns-then-not-are-there
@@ -67,7 +68,7 @@ serve-newest-requires c κs =
     let h = house (c .args .m .now) in
     let new = asked (c .args .class) (c .args .seats) (c .args .legs .now) in
     let pushed : house (c .push-booking .last .self) ≡ plus-booking h new = c .push-booking .ensures .house ∙ ap (plus-booking h) (ap booking-means (c .new .ensures) ∙ booking-of-means (c .args .class) (c .args .seats) (c .args .legs .now)) in
-    record { sound = c .push-booking .ensures .sound; newest = subst Newcomer (sym pushed) (newcomer h new refl (c .pre .idle)) }
+    record { sound = c .push-booking .ensures .sound; newest = subst Newcomer (sym pushed) (newcomer h new (c .pre .idle) refl) }
 
 pub returns-then-serve-newest : need.returns-then-serve-newest
 returns-then-serve-newest c =

@@ -1,5 +1,5 @@
 -- Memory that fits is opened as a new house, which no call has led to yet.
-use mathlib.Core.Path.{_≡_, sym, ap, _∙_}
+use mathlib.Core.Path.{sym, ap, _∙_}
 use mathlib.Core.List.{[]}
 use Rattle.meaning.specs.Calls.{ran, new-house}
 use Rattle.meaning.specs.Promise.{thin}

@@ -39,19 +39,20 @@ loop-x-again c =
 pub returns-in-bookings : need.returns-in-bookings
 returns-in-bookings c =
     let h : House = house (c .args .memory .now) in
+    let waits : c .booking-b .result .stands ≡ 0 = omega arith in
     let first : First h (c .bookings .k) = record {
       there = omega (arith, c .booking-count-k-end .ensures);
       can =
           ap (λ (b : Booking). fits h b) (sym (c .booking-b .ensures .means))
-          ∙ and-from _ _ (eq-eqb (c .booking-b .result .stands) 0 (c .if-b-ne-WAITS .left))
+          ∙ and-from _ _ (eq-eqb (c .booking-b .result .stands) 0 waits)
           (legs-fit (h .legs) (h .bookings) (c .booking-b .result .class) (c .booking-b .result .seats) (c .booking-b .result .legs) (c .booking-b .result .count)
           (omega (arith, c .booking-b .ensures .fine .few, c .booking-b .ensures .whole)) (λ y q. c .loop-x .inv y (omega arith)));
       before = c .bookings .inv;
     } in
-    record { first = first; serves = λ u. found-one h (Some (c .bookings .k)) u first }
+    record { first = first; serves = found-one h (Some (c .bookings .k)) first }
 
 pub returns : need.returns
 returns c =
     let h : House = house (c .args .memory .now) in
     let none : None-below h (length (h .bookings)) = λ j q. c .bookings .inv j (omega (arith, c .booking-count-k-end .ensures)) in
-    record { first = none; serves = λ u. found-one h None u none }
+    record { first = none; serves = found-one h None none }

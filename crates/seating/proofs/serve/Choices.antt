@@ -1,5 +1,5 @@
+use Rattle.meaning.proofs.Serve.{waiting}
 use Rattle.store.specs.Whole.{house}
-use Rattle.seating.specs.Serving.{waiting}
 use Rattle.seating.proofs.Turns.{On-the-way}
 use Rattle.seating.proofs.serve.Given as given
 
