@@ -19,6 +19,9 @@ use protocol::Answer;
 use seating::free_seats;
 use store::Memory;
 
+// The most classes that a leg can have.
+const CLASSES: u32 = 26;
+
 // What is out of range.
 const OUT_OF_RANGE: Answer = Answer::Refused {
     refusal: 2,
@@ -57,7 +60,7 @@ pub fn ask_free(m: &Memory, leg: u32, class: u32) -> Answer
     requires { ⌜ Sound (now m) ⌝ }
     ensures { λ r. ⌜ Meant (now (m .entry) .limits) (house (now (m .entry))) (free leg class) (answer-of r []) (house (now (m .entry))) ⌝ }
 {
-    if class >= 26 {
+    if class >= CLASSES {
         return OUT_OF_RANGE;
     }
     let i = leg as usize;
@@ -119,7 +122,7 @@ pub fn ask_price(m: &Memory, class: u32, part: &[u8]) -> Answer
     requires { ⌜ Sound (now m) ⌝ }
     ensures { λ r. ⌜ Meant (now (m .entry) .limits) (house (now (m .entry))) (price-of class (numbers-in (now (part .entry)))) (answer-of r []) (house (now (m .entry))) ⌝ }
 {
-    if class >= 26 {
+    if class >= CLASSES {
         return OUT_OF_RANGE;
     }
     let Some(journey) = read_journey(part) else {
