@@ -1,10 +1,9 @@
 // What the line of a call is answered.
 ghost use mathlib.Core.Path.{_≡_};
-ghost use Prim.Native.Nat.{_≤_};
-ghost use Rattle.std.specs.Vec.{made};
 ghost use Rattle.meaning.specs.Statements.{Reached};
 ghost use Rattle.store.specs.Whole.{Sound, house};
 ghost use Rattle.calls.specs.Stage.{stage};
+ghost use Rattle.house.specs.Answering.{Line-done, Line-refused};
 ghost use Rattle.house.specs.Opening.{passed-over};
 use calls::answer_row;
 use protocol::Answer;
@@ -27,7 +26,24 @@ pub fn is_passed_over(line: &[u8]) -> bool
     }
 }
 
-// The answer to a line: the call that it is, written as bytes, is done on memory.
+// The answer to a line that is no call: where it ceases to be one.
+fn refuse_line(unread: NoCall) -> Result<Reply, AllocError>
+    ensures { λ r. ⌜ Line-refused unread r ⌝ }
+{
+    match unread {
+        NoCall::Unreadable { place } => Ok(Reply {
+            answer: Answer::Refused {
+                refusal: 1,
+                place: place as u64,
+            },
+            listed: 0,
+        }),
+        NoCall::NoMemory => Err(AllocError),
+    }
+}
+
+// The answer to a line: the call that it is, written as bytes, is done on memory. It can always be
+// written: its numbers have 32 bits, and its list at most 255 of them.
 pub fn answer_line(
     heap: Global,
     m: &mut Memory,
@@ -36,24 +52,15 @@ pub fn answer_line(
 ) -> Result<Reply, AllocError>
     requires sound { ⌜ Sound (now m) ⌝ }
     requires reached { ⌜ Reached (stage (now m)) (house (now m)) ⌝ }
-    ensures listed { λ r. ⌜ made r (λ reply. reply .listed ≤ 26) ⌝ }
-    ensures sound { λ _. ⌜ Sound (now (m .exit)) ⌝ }
-    ensures reached { λ _. ⌜ Reached (stage (now (m .exit))) (house (now (m .exit))) ⌝ }
+    ensures { λ r. ⌜ Line-done (now (m .entry)) (now (m .exit)) (now (line .entry)) (now (sold .exit)) r ⌝ }
 {
     let read = match read_call(heap, line) {
         Ok(read) => read,
-        Err(NoCall::Unreadable { place }) => {
-            let answer = Answer::Refused {
-                refusal: 1,
-                place: place as u64,
-            };
-            return Ok(Reply { answer, listed: 0 });
-        }
-        Err(NoCall::NoMemory) => return Err(AllocError),
+        Err(unread) => return refuse_line(unread),
     };
     let mut row = [0; MAX_CALL];
     let Some(length) = encode_call(read.call, read.list.as_slice(), &mut row) else {
-        return Err(AllocError);
+        unreachable()
     };
-    Ok(answer_row(m, &row[0..length], sold))
+    Ok(answer_row(m, &row[..length], sold))
 }

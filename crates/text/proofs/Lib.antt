@@ -6,3 +6,4 @@ pub mod Spaced
 pub mod Printed
 pub mod Opens
 pub mod Wrong
+pub mod Fits

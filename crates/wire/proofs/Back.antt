@@ -12,7 +12,7 @@ use Rattle.std.proofs.shelf.Tests.{cases-lt, cases-order, lt-ltb, ltb-true, and
 use Rattle.meaning.specs.Calls.{Call, opens, garbled, call-number}
 use Rattle.meaning.specs.Promise.{field, all-fields, short, readable}
 use Rattle.protocol.specs.Forms.{fields, listing, field-count, has-list, made}
-use Rattle.protocol.proofs.Fields.{Written, written}
+use Rattle.protocol.proofs.Fields.{Written, written, readable-made}
 use Rattle.protocol.proofs.Numbers.{each-call, few-fields}
 use Rattle.protocol.proofs.Wholes.{nothing-lost}
 use Rattle.wire.specs.Bytes.{bytes-of, number-of, row-of, numbers-in, Bytes}
@@ -269,28 +269,6 @@ bytes-come-back (k ∷ rest) b h =
     let w = whole-row (k ∷ rest) h in
     let p = row-parts k rest (b .1) w in
     ap encoded (made-of k rest w) ∙ (encoded-made k (w .known) (fields-in k rest) (list-in k rest) (p .numbers) ∙ p .back)
-
--- a call of numbers that fit their fields, and of a list that a byte can count, can be written
-field-at : (fs : List ℕ) (i : ℕ) → all-fields fs ≡ true → field (getD fs i 0) ≡ true
-unfolding all-fields
-field-at [] i a = refl
-field-at (x ∷ fs) zero a = and-parts (field x) (all-fields fs) a .0
-field-at (x ∷ fs) (suc i) a = field-at fs i (and-parts (field x) (all-fields fs) a .1)
-
-readable-made : (k : ℕ) → k ≤ 10 → (fs list : List ℕ) → all-fields fs ≡ true → short list ≡ true → readable (made k fs list) ≡ true
-unfolding readable
-readable-made = each-call (λ k. (fs list : List ℕ) → all-fields fs ≡ true → short list ≡ true → readable (made k fs list) ≡ true)
-    (λ fs list a s. rw (field-at fs 0 a, field-at fs 1 a, field-at fs 2 a, field-at fs 3 a, s))
-    (λ fs list a s. rw (field-at fs 0 a, field-at fs 1 a, field-at fs 2 a, field-at fs 3 a, field-at fs 4 a))
-    (λ fs list a s. rw (field-at fs 0 a, field-at fs 1 a, s))
-    (λ fs list a s. rw (field-at fs 0 a))
-    (λ fs list a s. rw (field-at fs 0 a))
-    (λ fs list a s. rw (field-at fs 0 a, s))
-    (λ fs list a s. rw (field-at fs 0 a))
-    (λ fs list a s. rw (field-at fs 0 a, field-at fs 1 a))
-    (λ fs list a s. rw (field-at fs 0 a, s))
-    (λ fs list a s. rw (field-at fs 0 a))
-    (λ fs list a s. rw (field-at fs 0 a))
 
 pub calls-fit : Calls-fit
 unfolding Bytes
