@@ -15,7 +15,7 @@ use Rattle.questions.proofs.ask_price.Needs as need
 pub returns-then-class-ge-CLASSES : need.returns-then-class-ge-CLASSES
 returns-then-class-ge-CLASSES c =
     let is = numbers-in (c .args .part .now) in
-    price-out (c .args .m .now .limits) (house (c .args .m .now)) (c .args .class) is (class-out (c .args .m .now .limits) (house (c .args .m .now)) (c .args .class) is (c .if-class-ge-CLASSES .taken))
+    price-out (c .args .m .now .limits) (house (c .args .m .now)) (c .args .class) is (class-out (c .args .m .now .limits) (house (c .args .m .now)) (c .args .class) is (omega (arith, c .if-class-ge-CLASSES .taken)))
 
 pub returns-in-rest : need.returns-in-rest
 returns-in-rest c =
@@ -26,7 +26,7 @@ pub price-on-requires : need.price-on-requires
 price-on-requires c κs =
     let j = c .in-Some .ensures tt in
     let n : length (take (c .in-Some .journey .count - 0) (c .in-Some .journey .legs)) ≡ c .in-Some .journey .count - 0 = length-take-le (c .in-Some .journey .count - 0) (c .in-Some .journey .legs) (omega (arith, j .whole, j .few)) in
-    record { sound = c .pre; class = c .if-class-ge-CLASSES .left; some = omega (arith, j .some); few = omega (arith, j .few) }
+    record { sound = c .pre; class = omega (arith, c .if-class-ge-CLASSES .left); some = omega (arith, j .some); few = omega (arith, j .few) }
 
 pub returns : need.returns
 returns c =
