@@ -1,17 +1,16 @@
 // The words with which the program is called.
+use flash::Power;
 use std::fmt;
 
 // The most numbers that a tear has: one for each page of a block.
 pub const MOST_TORN: usize = 16;
 
-// What the words say: the files of the pages and of the calls, in which act power fails, 0 if in
-// none, and what the act that it fails in leaves of each page.
+// What the words say: the files of the pages and of the calls, and when power fails.
 #[derive(Clone, Copy)]
 pub struct Arguments<'a> {
     pub pages: &'a str,
-    pub acts: u64,
     pub calls: &'a str,
-    pub tear: [u8; 16],
+    pub power: Power,
 }
 
 // A wrong use of the program.
@@ -60,8 +59,7 @@ pub fn read_arguments(words: &[String]) -> Result<Arguments<'_>, Misuse<'_>> {
     }
     Ok(Arguments {
         pages: pages.as_str(),
-        acts: count,
         calls: calls.as_str(),
-        tear,
+        power: Power { acts: count, tear },
     })
 }

@@ -16,6 +16,7 @@ use arguments::Arguments;
 use arguments::Misuse;
 use arguments::MisuseDisplay;
 use arguments::read_arguments;
+use flash::Power;
 use limits::Limits;
 use limits::Sizes;
 use opening::open_house;
@@ -35,15 +36,14 @@ use text::houses::HouseLine;
 #[derive(Clone, Copy)]
 struct Failed;
 
-// Prints an answer, unless it is the act in which power fails. Gives how many acts are left then,
-// where power did not fail.
-fn say(rt: &LibcRuntime, acts: u64, answer: Answer, list: &[u64]) -> io::Result<Option<u64>> {
-    if acts == 1 {
-        return Ok(None);
+// Prints an answer, unless it is the act in which power fails. Gives whether power held.
+fn say(rt: &LibcRuntime, power: &mut Power, answer: Answer, list: &[u64]) -> io::Result<bool> {
+    if power.fails() {
+        return Ok(false);
     }
     let line = AnswerLine { answer, list };
     println!(rt, "{line}")?;
-    Ok(Some(acts.saturating_sub(1)))
+    Ok(true)
 }
 
 // How many bytes the file of the pages has; a file that is not there has none.
@@ -56,11 +56,10 @@ fn pages_length(rt: &LibcRuntime, path: &str) -> io::Result<u64> {
 }
 
 // Plays the calls of a text on a house, until power fails.
-fn play_calls(rt: &LibcRuntime, m: &mut Memory, text: &[u8], power: u64) -> io::Result<()>
+fn play_calls(rt: &LibcRuntime, m: &mut Memory, text: &[u8], power: &mut Power) -> io::Result<()>
     requires sound { ⌜ Sound (now m) ⌝ }
     requires reached { ⌜ Reached (stage (now m)) (house (now m)) ⌝ }
 {
-    let mut acts = power;
     let mut sold = [0; 26];
     let mut rest = text;
     while !rest.is_empty() {
@@ -71,16 +70,20 @@ fn play_calls(rt: &LibcRuntime, m: &mut Memory, text: &[u8], power: u64) -> io::
         }
         let reply = answer_line(rt.alloc(), m, next.line, &mut sold)?;
         let listed = reply.listed;
-        match say(rt, acts, reply.answer, &sold[0..listed])? {
-            Some(left) => acts = left,
-            None => return Ok(()),
+        if !say(rt, power, reply.answer, &sold[0..listed])? {
+            return Ok(());
         }
     }
     Ok(())
 }
 
 // Plays the calls of a text on a new house, in memory that is lent for it.
-fn play_house(rt: &LibcRuntime, house: HouseLine, text: &[u8], power: u64) -> io::Result<()> {
+fn play_house(
+    rt: &LibcRuntime,
+    house: HouseLine,
+    text: &[u8],
+    power: &mut Power,
+) -> io::Result<()> {
     let limits = Limits {
         gap: house.gap,
         hold: house.hold,
@@ -119,7 +122,7 @@ fn play_house(rt: &LibcRuntime, house: HouseLine, text: &[u8], power: u64) -> io
 }
 
 // Plays a file of calls: its first line opens the house.
-fn play(rt: &LibcRuntime, text: &[u8], bytes: u64, power: u64) -> io::Result<()> {
+fn play(rt: &LibcRuntime, text: &[u8], bytes: u64, power: &mut Power) -> io::Result<()> {
     let mut rest = text;
     while !rest.is_empty() {
         let next = read_line(rest);
@@ -160,7 +163,8 @@ fn run(rt: &LibcRuntime, words: &[String]) -> io::Result<bool> {
     let Ok(text) = fs::read(rt, arguments.calls) else {
         return complain(rt, Misuse::Unreadable(arguments.calls));
     };
-    play(rt, text.as_slice(), bytes, arguments.acts)?;
+    let mut power = arguments.power;
+    play(rt, text.as_slice(), bytes, &mut power)?;
     Ok(true)
 }
 
