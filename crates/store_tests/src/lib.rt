@@ -5,7 +5,7 @@ ghost use Prim.Native.Nat.{_+_, _*_, _<_, _≤_};
 ghost use lib.ListN.{length};
 ghost use mathlib.Core.Bool.{true};
 ghost use Rattle.meaning.specs.Calls.{all-to, falling};
-ghost use Rattle.records.specs.Words.{booking-of, leg-of};
+ghost use Rattle.records.specs.Words.{booking-of, leg-in, leg-of};
 ghost use Rattle.store.specs.Range.{Fine-booking, Fine-fare, Fine-leg};
 ghost use Rattle.store.specs.Whole.{Sound};
 use records::Booking;
@@ -32,7 +32,9 @@ pub fn other_leg(legs: &mut [u32], i: usize, g: &Leg, j: usize) -> (Leg, Leg)
     requires there { ⌜ i * 128 + 128 ≤ length (now legs) ⌝ }
     requires other { ⌜ j * 128 + 128 ≤ length (now legs) ⌝ }
     requires apart { ⌜ (j ≡ i → ⊥) ⌝ }
-    ensures { λ r. ⌜ r .0 ≡ r .1 ⌝ }
+    ensures before { λ r. ⌜ r .0 ≡ leg-in (now (legs .entry)) j ⌝ }
+    ensures same { λ r. ⌜ r .0 ≡ r .1 ⌝ }
+    ensures stored { λ _. ⌜ leg-in (now (legs .exit)) i ≡ now (g .entry) ⌝ }
 {
     let before = load_leg(legs, j);
     store_leg(legs, i, g);
