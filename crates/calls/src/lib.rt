@@ -1,6 +1,8 @@
 // Each call on memory. The checks stand in the order of the list of refusals, each handing its value
 // on or returning the refusal; the first that applies decides, and nothing is changed then.
 // `Meant`, of the crate `checks`, is what it means that a call is done as the meaning says.
+#![tactic(auto)]
+
 ghost use Rattle.std.specs.Prelude.{◌≡◌, ◌<◌, ◌≤◌, false, [], take, drop};
 ghost use Rattle.meaning.specs.Calls.{books, files, opens, ran};
 ghost use Rattle.meaning.specs.Statements.{Reached, some_could};

@@ -5,6 +5,8 @@
 //
 // A payment looks at one booking and the fares. Time goes through all bookings once, and serving
 // whoever waits goes through them once for each that is served, and once more.
+#![tactic(auto)]
+
 ghost use Rattle.std.specs.Prelude.{◌≡◌, ◌<◌, [], length};
 ghost use Rattle.meaning.specs.House.{over};
 ghost use Rattle.meaning.specs.Calls.{cancels, limits_to, pays, the_booking, ticks};

@@ -1,5 +1,7 @@
 // Checks of what a call brings: its list, read out of the part of the bytes in which it stands and
 // handed on as an array, and a journey's legs against the memory. Each is a test of the meaning.
+#![tactic(auto)]
+
 ghost use Rattle.std.specs.Prelude.{◌≡◌, ℕ, ◌<◌, ◌≤◌, length, drop, slice_index};
 ghost use Rattle.meaning.specs.Lines.{follows};
 ghost use Rattle.meaning.specs.House.{goes};

@@ -1,6 +1,8 @@
 // The device that the tests and the program run on: a chip in lent memory, with power that fails in an
 // act that is counted down to, and the answers that were given, recorded. The bytes are those of the
 // crate flash, 513 for a page and sixteen pages for a block.
+#![tactic(auto)]
+
 ghost use Rattle.std.specs.Prelude.{◌≡◌, ◌*◌, ◌<◌, ◌≤◌, true, false, not, [], length, replicate, vec_len, vec_capacity, ◌==◌, slice_index};
 ghost use Rattle.meaning.specs.Chip.{say, wipe, write};
 ghost use Rattle.meaning.specs.Lines.{pick};

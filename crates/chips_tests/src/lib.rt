@@ -1,5 +1,7 @@
 // The chip in lent memory, tried on one block: what is written is read again, what power leaves of an
 // act by the numbers of a tear, and which answers are recorded.
+#![tactic(auto)]
+
 ghost use Rattle.std.specs.Prelude.{◌*◌, ◌<◌};
 ghost use Rattle.chips.specs.Recorded.{blocks_in};
 

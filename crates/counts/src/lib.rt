@@ -3,6 +3,8 @@
 // or is gone is brought along on each of its legs, in its class and each dearer one, which touches
 // at most 8 legs times 26 classes; nothing goes through all bookings. That the counts are then what
 // going through all of them would give is shown one layer up, where the bookings are.
+#![tactic(auto)]
+
 ghost use Rattle.std.specs.Prelude.{◌≡◌, ℕ, ◌+◌, ◌*◌, ◌^◌, ◌<◌, ◌≤◌, true, false, length};
 ghost use Rattle.records.specs.Words.{leg_in};
 ghost use Rattle.counts.specs.Counts.{CanGive, CanTake, Ready, Recounted, Shared, count_in, counted};

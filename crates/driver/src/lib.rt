@@ -1,6 +1,8 @@
 // The driver: does on a device what a session asks for, act by act, until the call's answer is given
 // or power fails. A device is a chip, and whoever hears the answers; `Device` says by ghost members
 // what the chip holds and which answers were given. What is proved here is proved of every device.
+#![tactic(auto)]
+
 ghost use Rattle.std.specs.Prelude.{◌≡◌, ℕ, ◌*◌, ◌<◌, ◌≤◌, true, false, List};
 ghost use Rattle.meaning.specs.Calls.{Answer as Given, garbled, new_house};
 ghost use Rattle.meaning.specs.Chip.{Chip, write, wipe, say};

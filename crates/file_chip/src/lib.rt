@@ -9,6 +9,8 @@
 //
 // Where the file can't be written, or an answer can't be printed, that is remembered, and counts as
 // power failing in the act.
+#![tactic(auto)]
+
 ghost use Rattle.std.specs.Prelude.{◌≡◌, ◌*◌, ◌<◌, []};
 ghost use Rattle.flash.specs.Pages.{chip_in};
 ghost use Rattle.chips.specs.Recorded.{blocks_in, chip_of, told_by};

@@ -2,6 +2,8 @@
 // bytes: one that says how it is, 0 blank, 1 written, 2 spoilt, and the page's 512. A block is sixteen
 // pages. This is the chip that the programs and the tests run on: it does what the definition of the
 // chip says, and where power fails it leaves what the definition allows, by numbers that are lent.
+#![tactic(auto)]
+
 ghost use Rattle.std.specs.Prelude.{◌≡◌, ◌+◌, ◌*◌, ◌≤◌, not, ◌∷◌, length, replicate, slice_index};
 ghost use Rattle.meaning.specs.Chip.{write, wipe};
 ghost use Rattle.meaning.specs.Lines.{pick};

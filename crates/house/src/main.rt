@@ -2,6 +2,8 @@
 // each answer as a line. It is thin: lines are read and printed by the crate `text`, and calls are done
 // by the crate `calls`, on memory that is lent for one run. The pages are looked at, and left as they
 // are: a house is not kept on them yet.
+#![tactic(auto)]
+
 ghost use Rattle.meaning.specs.Statements.{Reached};
 ghost use Rattle.store.specs.Whole.{Sound, house};
 ghost use Rattle.calls.specs.Stage.{stage};

@@ -2,6 +2,8 @@
 // checkpoint, and the page of a call. A page is 512 bytes that the caller lends; whatever it held
 // before is gone, and every byte that isn't needed is 0. Which bytes a page has is said where the
 // pages are defined: `row`, `call_page` and `page_bytes` of the crate journal_rows.
+#![tactic(auto)]
+
 ghost use Rattle.std.specs.Prelude.{◌≡◌, ℕ, ◌*◌, ◌<◌, ◌≤◌, Bool, [], ◌∷◌, length, take, drop};
 ghost use Rattle.wire.specs.Bytes.{row_of};
 ghost use Rattle.limits.specs.Opening.{limits_mean};

@@ -2,6 +2,8 @@
 // statements. Each function carries one or two of them, and does nothing when called. The promise in
 // the meaning's own words, where the reading of chips is a part of it, is in proofs/Right.antt: no
 // contract can carry it, since it speaks of every such reading.
+#![tactic(auto)]
+
 ghost use Rattle.journal_house.specs.Right.{ByNumber, ByPage, ByPlan, CallsFast, FewPages, KnownChip, RightByReading, Rises, Roomy};
 
 // The main promise, for all limits, and whatever calls the house can take: started on a chip that

@@ -1,6 +1,8 @@
 // Pages of the journal read into memory: the commit record of a slot, the pages of its checkpoint, and
 // the calls of the log. Each page is 512 bytes, by the layout of the crate `journal_rows`; what can't
 // be a page of a house's chip is refused. specs/Pages.antt says what a page brings.
+#![tactic(auto)]
+
 ghost use Rattle.std.specs.Prelude.{◌≡◌, ℕ, ◌+◌, ◌<◌, ◌≤◌, min, Bool, true, false, ◌&&◌, length, take, drop, ◌==◌, slice_index};
 ghost use Rattle.meaning.specs.Calls.{good_fields, opens};
 ghost use Rattle.limits.specs.Opening.{InRange, limits_mean};

@@ -1,6 +1,8 @@
 // How the chip of a house is shared out: two slots for checkpoints and a ring for the log, by the
 // limits with which the house was opened. specs/Layout.antt says what the pages of the journal say,
 // specs/Bytes.antt with which bytes; crate journal_house what is proved of the house that is kept so.
+#![tactic(auto)]
+
 ghost use Rattle.std.specs.Prelude.{◌≡◌, ℕ, ◌+◌, ◌*◌, ◌<◌, ◌≤◌, Bool};
 ghost use Rattle.meaning.specs.Promise.{room_for};
 ghost use Rattle.limits.specs.Opening.{InRange, limits_mean};

@@ -2,6 +2,8 @@
 // the checkpoint of the slot in use, and the pages of its log. `Stage` says how far a start has come,
 // `Stage::wants` which page is asked for next, and `Stage::take` takes that page in. What can't be a
 // house's chip is refused; no chip that reads as a house is.
+#![tactic(auto)]
+
 ghost use Rattle.std.specs.Prelude.{◌≡◌, ℕ, ◌<◌, ◌≤◌, Bool};
 ghost use Rattle.meaning.specs.Calls.{Limits as MeantLimits, new_house};
 ghost use Rattle.meaning.specs.House.{House};

@@ -3,6 +3,8 @@
 // begins and how long it is. `Work` is what is still to be done for the call under way, a small state
 // that says which act comes next. specs/Steps.antt ties both to the definitions of the crate
 // `journal`: `plan` is the list of acts that are owed, and each step gives its head and leaves its tail.
+#![tactic(auto)]
+
 ghost use Rattle.std.specs.Prelude.{◌≡◌, ℕ, ◌+◌, ◌*◌, ◌<◌, ◌≤◌, Bool};
 ghost use Rattle.limits.specs.Opening.{InRange, limits_mean};
 ghost use Rattle.journal.specs.Slots.{first};

@@ -2,6 +2,8 @@
 // first, with the sizes of the slices that it would lend: it tells limits that are out of range, or
 // the first slice that is too small, before any slice is lent, so nothing is written. specs/Opening.antt
 // has what is asked for, and the order in which misfits are told.
+#![tactic(auto)]
+
 ghost use Rattle.std.specs.Prelude.{◌≡◌, ◌+◌, ◌*◌, ◌≤◌};
 ghost use Rattle.limits.specs.Opening.{asks, in_range, misfit_of};
 

@@ -15,6 +15,8 @@
 // | turned_away    | a refused call changes nothing                            | proofs/Turned.antt   |
 // | newcomer_waits | a newcomer isn't held while one waits for the same        | proofs/Newcomer.antt |
 // | example_holds  | the worked example is answered as worked out by hand      | proofs/Sample.antt   |
+#![tactic(auto)]
+
 ghost use Rattle.meaning.specs.Example.{ExampleHolds};
 ghost use Rattle.meaning.specs.Statements.{Cheapest, FirstServed, FreeIsFree, InTime, NewcomerWaits, NobodyWaits, PaidStays, SoldOnce, TurnedAway, Untouched};
 

@@ -3,6 +3,8 @@
 // contract is the main promise: whatever the text, and in whichever act power fails and however it
 // tears that act, the answers that were given are the house's, and the chip that is left reads as the
 // calls that were answered, or these and the one under way.
+#![tactic(auto)]
+
 ghost use Rattle.std.specs.Prelude.{◌≡◌, ◌<◌, ◌≤◌, true, length};
 ghost use Rattle.meaning.specs.Calls.{new_house};
 ghost use Rattle.meaning.specs.Promise.{all_readable, room_for};

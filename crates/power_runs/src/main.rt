@@ -4,6 +4,8 @@
 // the calls that were answered, or these and the one under way. The answers that were given before
 // power failed are the first ones of a run that never failed. numbers.md, beside this folder, works out
 // every number that is printed.
+#![tactic(auto)]
+
 mod bench;
 mod cuts;
 mod lists;

@@ -6,6 +6,8 @@
 // Work: a journey of n legs has its first piece cut off in n ways, and each leaves fewer legs to be
 // cut in turn, so at most 2^n - 1 pieces are looked up, 255 for 8 legs. Behind a piece for which there
 // is no fare nothing is looked up. Looking one up goes through all fares.
+#![tactic(auto)]
+
 ghost use Rattle.std.specs.Prelude.{◌≡◌, ℕ, suc, ◌+◌, ◌*◌, ◌<◌, ◌≤◌, length, drop, slice_index};
 ghost use Rattle.meaning.specs.Lines.{pick, cheaper, piece, cost_in, cost};
 ghost use Rattle.pricing.specs.Prices.{BestWay, There, coded, fits, stretch};

@@ -2,6 +2,8 @@
 // for the price of a journey. Places are 10 to 18, and legs 0 to 7 go one after the other from 10 to
 // 18; leg 8 goes back from 12 to 10, and leg 9 straight from 10 to 12. A fare is written as origin,
 // goal, class, legs at most, price.
+#![tactic(auto)]
+
 ghost use Rattle.store.specs.Whole.{Sound};
 
 #[cfg(test)]

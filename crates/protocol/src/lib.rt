@@ -2,6 +2,8 @@
 // an answer are enums with their numbers in their cases; a list, of limits, legs or counts, stands
 // beside. specs/Forms.antt says which call or answer of the meaning each one is, and in which order
 // the numbers of a call come, for whoever writes them as bytes or as text.
+#![tactic(auto)]
+
 ghost use Rattle.std.specs.Prelude.{◌≡◌, ◌<◌, ◌≤◌, Some, None};
 ghost use Rattle.protocol.specs.Forms.{NothingLost, PutTogether, TakenApart, field_count, has_list};
 

@@ -1,6 +1,8 @@
 // The questions: what is free, what a journey costs, how a booking stands, what is taken on a leg.
 // They change nothing. The checks stand in the order of the list of refusals, each handing its value
 // on or returning the refusal; the first that applies decides.
+#![tactic(auto)]
+
 ghost use Rattle.std.specs.Prelude.{◌≡◌, ◌<◌, ◌≤◌, [], length, take, drop};
 ghost use Rattle.meaning.specs.Calls.{booking, free, leg_is, price_of};
 ghost use Rattle.protocol.specs.Forms.{answer_of};

@@ -3,6 +3,8 @@
 // specs/Words.antt says what the words of a place are, and specs/Means.antt which leg, fare or
 // booking of the meaning that is. Words that no record uses yet are spare, and stay as they are.
 // Loading and storing touch a fixed number of words, and no place but the one that is named.
+#![tactic(auto)]
+
 ghost use Rattle.std.specs.Prelude.{◌≡◌, ℕ, ◌+◌, ◌*◌, ◌<◌, ◌≤◌, length, ◌≢◌, slice_index};
 ghost use Rattle.records.specs.Words.{booking_in, booking_of, booking_read, fare_in, leg_in, leg_of, leg_read, part};
 

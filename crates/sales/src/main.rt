@@ -1,6 +1,8 @@
 // The program `sales PAGES`: reads the file that stands for the chip of a house, changes nothing, and
 // prints a line for each leg, with what is sold on it. It knows the limits of the house from the chip:
 // a commit record names them, and stands in the first page of a slot's first block.
+#![tactic(auto)]
+
 ghost use Rattle.std.specs.Prelude.{◌≡◌, ◌≤◌, true};
 ghost use Rattle.meaning.specs.Promise.{room_for};
 ghost use Rattle.store.specs.Whole.{Sound};

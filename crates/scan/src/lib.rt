@@ -2,6 +2,8 @@
 // hands on what stands behind it, as a part of the caller's bytes; or it says how many bytes are
 // left from the first that doesn't fit on, so that its place in the line is the line's length
 // less that.
+#![tactic(auto)]
+
 ghost use Rattle.std.specs.Prelude.{◌≡◌, ◌<◌, ◌≤◌, min, length, drop};
 ghost use Rattle.scan.specs.Told.{ListTold, number_told, numbers_told};
 ghost use Rattle.scan.specs.Words.{front, is_kind, line_of, list_in, next_word, number_in, numbers_in, past_line, past_word, value_on, word_in};

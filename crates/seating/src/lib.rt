@@ -7,6 +7,8 @@
 // Room and what is free look at no booking: one count is read for each leg and class that is asked
 // about. `serve_newest` looks at one booking, the last. Only `first_fit`, and so `serve`, goes
 // through all bookings.
+#![tactic(auto)]
+
 ghost use Rattle.std.specs.Prelude.{◌≡◌, ℕ, ◌+◌, ◌<◌, min, [], ◌∷◌, length, slice_index};
 ghost use Rattle.meaning.specs.Lines.{pick};
 ghost use Rattle.meaning.specs.House.{room};

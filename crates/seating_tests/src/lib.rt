@@ -1,4 +1,6 @@
 // What is free, and who is served, on three small legs, with answers worked out by hand from the rules.
+#![tactic(auto)]
+
 ghost use Rattle.std.specs.Prelude.{◌≡◌, ◌+◌, ◌<◌, true, OnOk};
 ghost use Rattle.meaning.specs.Calls.{all_to, falling};
 ghost use Rattle.records.specs.Words.{leg_of};

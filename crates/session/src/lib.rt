@@ -4,6 +4,8 @@
 // last, when what the call takes is on the chip. specs/Acts.antt says which acts are still owed, and
 // ties them to the program of the main promise: a call makes them what the program does for it, and
 // each step gives the first of them and leaves the others.
+#![tactic(auto)]
+
 ghost use Rattle.std.specs.Prelude.{◌≡◌, ℕ, ◌+◌, ◌*◌, ◌<◌, ◌≤◌, Bool, true, false, length, take, None};
 ghost use Rattle.meaning.specs.Calls.{garbled};
 ghost use Rattle.meaning.specs.Promise.{room_for};

@@ -7,6 +7,8 @@
 //
 // Nothing here goes through all bookings: adding and reading touch a fixed number of words, and a
 // change of how a booking stands at most 8 legs times 26 classes.
+#![tactic(auto)]
+
 ghost use Rattle.std.specs.Prelude.{◌≡◌, ℕ, ◌<◌, ◌≤◌, Bool, true, length, None, slice_index_or};
 ghost use Rattle.meaning.specs.Lines.{leg, Fare as MeantFare};
 ghost use Rattle.meaning.specs.House.{stand, taken};

@@ -1,5 +1,7 @@
 // The worked example's legs, fares and bookings, walked through the store step by step, with counts
 // that were worked out by hand from the rules; and that what is stored is loaded again, as contracts.
+#![tactic(auto)]
+
 ghost use Rattle.std.specs.Prelude.{◌≡◌, ◌+◌, ◌*◌, ◌<◌, ◌≤◌, true, length, ◌≢◌};
 ghost use Rattle.meaning.specs.Calls.{all_to, falling};
 ghost use Rattle.records.specs.Words.{booking_of, leg_in, leg_of};

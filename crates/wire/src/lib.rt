@@ -1,5 +1,7 @@
 // Calls as bytes. specs/Rows.antt says which bytes a call has, and which call a row of bytes is or
 // at which place it ceases to be one; specs/Theorems.antt what follows from that.
+#![tactic(auto)]
+
 ghost use Rattle.std.specs.Prelude.{◌≡◌, ℕ, ◌+◌, ◌*◌, ◌<◌, ◌≤◌, ◌∷◌, length, drop, slice_index};
 ghost use Rattle.protocol.specs.Forms.{call_of, field_count};
 ghost use Rattle.wire.specs.Bytes.{four_at, number_of, numbers_in, over, row_of};

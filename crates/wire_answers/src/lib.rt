@@ -1,5 +1,7 @@
 // Answers as bytes, into the 256 that a caller lends. specs/Answers.antt says which bytes an answer
 // has.
+#![tactic(auto)]
+
 ghost use Rattle.std.specs.Prelude.{◌≡◌, ◌+◌, ◌*◌, ◌≤◌, ◌∷◌, length};
 ghost use Rattle.protocol.specs.Forms.{answer_of};
 ghost use Rattle.wire.specs.Bytes.{in_front, over, row_of};

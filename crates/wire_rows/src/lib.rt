@@ -2,6 +2,8 @@
 // is its number and its fields, four bytes each, low byte first, and a list behind its count in a
 // byte; an answer has eight bytes for each number. Long rows are written in hexadecimal. The tests run
 // every row through the code.
+#![tactic(auto)]
+
 #[cfg(test)]
 mod tests {
     use protocol::{Answer, Call};
