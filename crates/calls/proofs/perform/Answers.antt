@@ -19,8 +19,8 @@ book-answer-requires c = record { sound = c.requires.sound; idle = idle c.args.m
 pub returns-in-Open : goal.returns-in-Open
 unfolding call_number
 returns-in-Open c = record {
-  done = as_call c.args.m.now c.open-leg-answer.new.m c.open-leg-answer.result [] (numbers_in c.args.part.now) c.args.call _ c.in-Open.is
-      (done c.args.m.now c.open-leg-answer.new.m _ c.open-leg-answer.result [] refl c.requires.reached c.open-leg-answer.ensures.meant c.open-leg-answer.ensures.sound c.open-leg-answer.ensures.lent);
+  done = as_call c.args.m.now c.open_leg-answer.new.m c.open_leg-answer.result [] (numbers_in c.args.part.now) c.args.call _ c.in-Open.is
+      (done c.args.m.now c.open_leg-answer.new.m _ c.open_leg-answer.result [] refl c.requires.reached c.open_leg-answer.ensures.meant c.open_leg-answer.ensures.sound c.open_leg-answer.ensures.lent);
   listed = omega arith;
   behind = refl;
 }
@@ -28,8 +28,8 @@ returns-in-Open c = record {
 pub returns-in-File : goal.returns-in-File
 unfolding call_number
 returns-in-File c = record {
-  done = as_call c.args.m.now c.file-fare-answer.new.m c.file-fare-answer.result [] (numbers_in c.args.part.now) c.args.call _ c.in-File.is
-      (done c.args.m.now c.file-fare-answer.new.m _ c.file-fare-answer.result [] refl c.requires.reached c.file-fare-answer.ensures.meant c.file-fare-answer.ensures.sound c.file-fare-answer.ensures.lent);
+  done = as_call c.args.m.now c.file_fare-answer.new.m c.file_fare-answer.result [] (numbers_in c.args.part.now) c.args.call _ c.in-File.is
+      (done c.args.m.now c.file_fare-answer.new.m _ c.file_fare-answer.result [] refl c.requires.reached c.file_fare-answer.ensures.meant c.file_fare-answer.ensures.sound c.file_fare-answer.ensures.lent);
   listed = omega arith;
   behind = refl;
 }
@@ -46,8 +46,8 @@ returns-in-Book c = record {
 pub returns-in-Free : goal.returns-in-Free
 unfolding call_number
 returns-in-Free c = record {
-  done = as_call c.args.m.now c.args.m.now c.ask-free-answer.result [] (numbers_in c.args.part.now) c.args.call _ c.in-Free.is
-      (answered c.args.m.now _ c.ask-free-answer.result [] refl c.requires.reached c.ask-free-answer.ensures c.requires.sound);
+  done = as_call c.args.m.now c.args.m.now c.ask_free-answer.result [] (numbers_in c.args.part.now) c.args.call _ c.in-Free.is
+      (answered c.args.m.now _ c.ask_free-answer.result [] refl c.requires.reached c.ask_free-answer.ensures c.requires.sound);
   listed = omega arith;
   behind = refl;
 }
@@ -55,8 +55,8 @@ returns-in-Free c = record {
 pub returns-in-Price : goal.returns-in-Price
 unfolding call_number
 returns-in-Price c = record {
-  done = as_call c.args.m.now c.args.m.now c.ask-price-answer.result [] (numbers_in c.args.part.now) c.args.call _ c.in-Price.is
-      (answered c.args.m.now _ c.ask-price-answer.result [] refl c.requires.reached c.ask-price-answer.ensures c.requires.sound);
+  done = as_call c.args.m.now c.args.m.now c.ask_price-answer.result [] (numbers_in c.args.part.now) c.args.call _ c.in-Price.is
+      (answered c.args.m.now _ c.ask_price-answer.result [] refl c.requires.reached c.ask_price-answer.ensures c.requires.sound);
   listed = omega arith;
   behind = refl;
 }
@@ -64,8 +64,8 @@ returns-in-Price c = record {
 pub returns-in-Booking : goal.returns-in-Booking
 unfolding call_number
 returns-in-Booking c = record {
-  done = as_call c.args.m.now c.args.m.now c.ask-booking-answer.result [] (numbers_in c.args.part.now) c.args.call _ c.in-Booking.is
-      (answered c.args.m.now _ c.ask-booking-answer.result [] refl c.requires.reached c.ask-booking-answer.ensures c.requires.sound);
+  done = as_call c.args.m.now c.args.m.now c.ask_booking-answer.result [] (numbers_in c.args.part.now) c.args.call _ c.in-Booking.is
+      (answered c.args.m.now _ c.ask_booking-answer.result [] refl c.requires.reached c.ask_booking-answer.ensures c.requires.sound);
   listed = omega arith;
   behind = refl;
 }
@@ -73,12 +73,12 @@ returns-in-Booking c = record {
 pub returns-in-Leg : goal.returns-in-Leg
 unfolding call_number
 returns-in-Leg c =
-    let list = take c.ask-leg.result.listed c.ask-leg.new.sold in
+    let list = take c.ask_leg.result.listed c.ask_leg.new.sold in
     record {
-      done = as_call c.args.m.now c.args.m.now c.ask-leg.result.answer list (numbers_in c.args.part.now) c.args.call _ c.in-Leg.is
-          (answered c.args.m.now _ c.ask-leg.result.answer list refl c.requires.reached c.ask-leg.ensures.meant c.requires.sound);
-      listed = c.ask-leg.ensures.listed;
-      behind = c.ask-leg.ensures.behind;
+      done = as_call c.args.m.now c.args.m.now c.ask_leg.result.answer list (numbers_in c.args.part.now) c.args.call _ c.in-Leg.is
+          (answered c.args.m.now _ c.ask_leg.result.answer list refl c.requires.reached c.ask_leg.ensures.meant c.requires.sound);
+      listed = c.ask_leg.ensures.listed;
+      behind = c.ask_leg.ensures.behind;
     }
 
 pub returns-in-Pay : goal.returns-in-Pay

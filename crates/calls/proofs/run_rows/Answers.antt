@@ -27,13 +27,13 @@ loop-row-init c = (refl, c.requires.reached, c.requires.sound, lent_none c.args.
 
 pub loop-row-preserved : goal.loop-row-preserved
 loop-row-preserved c =
-    let d = c.answer-row.ensures.done in
+    let d = c.answer_row.ensures.done in
     let xs = calls_of c.args.rows.now in
     let x = row_call (get_or c.args.rows.now c.loop-row.row-index none) in
     let l : stage c.loop-row.m ≡ stage c.args.m.now = ap (limits_mean thin) c.loop-row.invariant.3.limits in
     let step = ap₂ (λ (v : meaning.Limits) (h : House). after v h x) l c.loop-row.invariant.0 in
     let more = rows_more (stage c.args.m.now) (house c.args.m.now) xs c.loop-row.row-index x (omega (arith, length-map c.args.rows.now row_call)) (sym (get_or-map row_call c.args.rows.now c.loop-row.row-index none x c.loop-row-test.true)) in
-    (d.leaves ∙ step ∙ sym more, d.reached, d.sound, lent_both c.args.m.now c.loop-row.m c.answer-row.new.m c.loop-row.invariant.3 d.lent)
+    (d.leaves ∙ step ∙ sym more, d.reached, d.sound, lent_both c.args.m.now c.loop-row.m c.answer_row.new.m c.loop-row.invariant.3 d.lent)
 
 pub returns : goal.returns
 returns c =

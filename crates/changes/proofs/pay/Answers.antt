@@ -9,9 +9,9 @@ use Rattle.store.proofs.Lents.{lent_none}
 use Rattle.changes.proofs.Paid.{cents, no_booking, not_held, paid}
 use Rattle.changes.proofs.pay.Goals as goal
 
-pub returns-then-k-booking-count : goal.returns-then-k-booking-count
-returns-then-k-booking-count c = record {
-  meant = no_booking c.args.m.now.limits (house c.args.m.now) c.args.booking (omega (arith, c.booking-count.ensures));
+pub returns-then-k-booking_count : goal.returns-then-k-booking_count
+returns-then-k-booking_count c = record {
+  meant = no_booking c.args.m.now.limits (house c.args.m.now) c.args.booking (omega (arith, c.booking_count.ensures));
   sound = c.requires;
   lent = lent_none c.args.m.now;
 }
@@ -20,7 +20,7 @@ pub returns-then-b-ne-HELD : goal.returns-then-b-ne-HELD
 returns-then-b-ne-HELD c =
     let stands : c.booking-b.result.stands ≡ (the_booking (house c.args.m.now) c.args.booking).stands = ap (λ (b : Booking). b.stands) c.booking-b.ensures.means in
     record {
-      meant = not_held c.args.m.now.limits (house c.args.m.now) c.args.booking (omega (arith, c.booking-count.ensures)) (λ z. omega (arith, c.if-b-ne-HELD.true));
+      meant = not_held c.args.m.now.limits (house c.args.m.now) c.args.booking (omega (arith, c.booking_count.ensures)) (λ z. omega (arith, c.if-b-ne-HELD.true));
       sound = c.requires;
       lent = lent_none c.args.m.now;
     }
@@ -43,9 +43,9 @@ returns c =
     let stands : c.booking-b.result.stands ≡ (the_booking h c.args.booking).stands = ap (λ (b : Booking). b.stands) means in
     let legs : take (c.booking-b.result.count - 0) c.booking-b.result.legs ≡ take c.booking-b.result.count c.booking-b.result.legs = ap (λ n. take n c.booking-b.result.legs) (omega arith) in
     let seats : c.from.result ≡ c.booking-b.result.seats = omega (arith, c.from.ensures) in
-    let seat = c.unwrap-or-seat.ensures ∙ cents _ ∙ ap (λ n. n - 1) (c.price.ensures.value ∙ ap (cost h.fares h.legs c.booking-b.result.class) legs) in
+    let seat = c.unwrap_or-seat.ensures ∙ cents _ ∙ ap (λ n. n - 1) (c.price.ensures.value ∙ ap (cost h.fares h.legs c.booking-b.result.class) legs) in
     record {
-      meant = paid c.args.m.now.limits h c.args.booking (omega (arith, c.booking-count.ensures)) _ (house c.settle.new.self) (omega (arith, c.if-b-ne-HELD.false))
+      meant = paid c.args.m.now.limits h c.args.booking (omega (arith, c.booking_count.ensures)) _ (house c.settle.new.self) (omega (arith, c.if-b-ne-HELD.false))
           ((λ d. seats d * seat d) ∙ ap (λ (b : Booking). b.seats * (cost h.fares h.legs b.class b.legs - 1)) means) c.settle.ensures.house;
       sound = c.settle.ensures.sound;
       lent = c.settle.ensures.lent;

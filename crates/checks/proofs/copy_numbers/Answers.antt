@@ -14,5 +14,5 @@ loop-i-preserved c =
 pub returns : goal.returns
 returns c =
     let ns = numbers_in c.args.part.now in
-    let n : c.loop-i.i ≡ c.leg-count-count.result = omega arith in
-    (c.leg-count-count.ensures, omega arith, ap (λ k. take k c.loop-i.out) (sym n) ∙ c.loop-i.invariant ∙ take_all c.loop-i.i ns (omega (arith, c.leg-count-count.ensures)))
+    let n : c.loop-i.i ≡ c.leg_count-count.result = omega arith in
+    (c.leg_count-count.ensures, omega arith, ap (λ k. take k c.loop-i.out) (sym n) ∙ c.loop-i.invariant ∙ take_all c.loop-i.i ns (omega (arith, c.leg_count-count.ensures)))

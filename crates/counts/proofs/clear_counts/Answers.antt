@@ -10,9 +10,9 @@ pub returns : goal.returns
 returns c =
     let e : (c.args.i * 128 + 57) - (c.args.i * 128 + 31) ≡ 26 = omega arith in
     let p : c.args.i * 128 + 31 + 26 ≤ length c.args.legs.now = omega arith in
-    let l : length c.copy-from-slice.new.self ≡ 26 = search rules in
+    let l : length c.copy_from_slice.new.self ≡ 26 = search rules in
     simp e (record {
-      nothing = λ x h. inside (c.args.i * 128 + 31) 26 x _ _ _ (omega arith) (omega arith) (omega arith) ∙ ap (λ (v : List ℕ). get_or v x 0) c.copy-from-slice.ensures.after ∙ get_or-replicate 26 x 0 0 h;
+      nothing = λ x h. inside (c.args.i * 128 + 31) 26 x _ _ _ (omega arith) (omega arith) (omega arith) ∙ ap (λ (v : List ℕ). get_or v x 0) c.copy_from_slice.ensures.after ∙ get_or-replicate 26 x 0 0 h;
       others = λ j x h f. outside (c.args.i * 128 + 31) 26 (j * 128 + 31 + x) _ _ p l (off_others j c.args.i x h f);
       legs = λ j. ap leg_read (beside (c.args.i * 128 + 31) (j * 128) 26 31 _ _ p l (off_counts j c.args.i));
     })

@@ -25,7 +25,7 @@ loop-device-preserved g c = (
 
 pub returns : goal.returns
 returns g c =
-    let rest = sym c.is-resting.ensures ∙ c.loop-device-test.false in
+    let rest = sym c.is_resting.ensures ∙ c.loop-device-test.false in
     record {
       done = all_of _ _ _ _ _ _ c.loop-device.invariant.0 (rest_owes c.loop-device.session c.args.m.now rest);
       kept = c.loop-device.invariant.1;

@@ -21,14 +21,14 @@ read-state-requires g c =
     let w = subst (λ (l : Limits). Wanted l c.loop-number.start c.in-Some.number) (c.limits-limits.ensures ∙ sym i.2.limits) c.in-Some.ensures in
     on_chip (g.D.Device.chip c.args.device.now) m c.loop-number.start c.in-Some.number i.0 i.1 i.3 w _ (subst (λ (l : Limits). room_for (chip_limits l) ≤ g.D.Device.blocks c.args.device.now) (sym i.2.limits) c.requires.size)
 
-pub returns-then-not-take-page : goal.returns-then-not-take-page
-returns-then-not-take-page g c =
+pub returns-then-not-take_page : goal.returns-then-not-take_page
+returns-then-not-take_page g c =
     let m = c.loop-number.m in
     let i = c.loop-number.invariant in
     let w = subst (λ (l : Limits). Wanted l c.loop-number.start c.in-Some.number) (c.limits-limits.ensures ∙ sym i.2.limits) c.in-Some.ensures in
     record {
-      taken = no_refusal (g.D.Device.chip c.args.device.now) m c.loop-number.start c.in-Some.number i.0 i.1 i.3 w _ c.read-state.ensures c.take-page.new.m c.take-page.ensures.lent c.if-not-take-page.ensures.taken;
-      lent = lent_both c.args.m.now m c.take-page.new.m i.2 c.take-page.ensures.lent;
+      taken = no_refusal (g.D.Device.chip c.args.device.now) m c.loop-number.start c.in-Some.number i.0 i.1 i.3 w _ c.read-state.ensures c.take_page.new.m c.take_page.ensures.lent c.if-not-take_page.ensures.taken;
+      lent = lent_both c.args.m.now m c.take_page.new.m i.2 c.take_page.ensures.lent;
     }
 
 pub loop-number-smaller : goal.loop-number-smaller
@@ -36,22 +36,22 @@ loop-number-smaller g c =
     let m = c.loop-number.m in
     let i = c.loop-number.invariant in
     let w = subst (λ (l : Limits). Wanted l c.loop-number.start c.in-Some.number) (c.limits-limits.ensures ∙ sym i.2.limits) c.in-Some.ensures in
-    page_less (g.D.Device.chip c.args.device.now) m c.loop-number.start c.in-Some.number i.0 i.1 i.3 w _ c.read-state.ensures c.take-page.new.m c.take-page.ensures.lent c.take-page.new.stage c.if-not-take-page.ensures.taken
+    page_less (g.D.Device.chip c.args.device.now) m c.loop-number.start c.in-Some.number i.0 i.1 i.3 w _ c.read-state.ensures c.take_page.new.m c.take_page.ensures.lent c.take_page.new.stage c.if-not-take_page.ensures.taken
 
 pub loop-number-preserved : goal.loop-number-preserved
 loop-number-preserved g c =
     let m = c.loop-number.m in
     let i = c.loop-number.invariant in
-    let at = c.if-not-take-page.ensures.taken in
+    let at = c.if-not-take_page.ensures.taken in
     let w = subst (λ (l : Limits). Wanted l c.loop-number.start c.in-Some.number) (c.limits-limits.ensures ∙ sym i.2.limits) c.in-Some.ensures in (
-      c.take-page.ensures.sound,
+      c.take_page.ensures.sound,
       at.fits,
-      lent_both c.args.m.now m c.take-page.new.m i.2 c.take-page.ensures.lent,
-      page_on (g.D.Device.chip c.args.device.now) m c.loop-number.start c.in-Some.number i.0 i.1 i.3 w _ c.read-state.ensures c.take-page.new.m c.take-page.ensures.lent c.take-page.new.stage at,
+      lent_both c.args.m.now m c.take_page.new.m i.2 c.take_page.ensures.lent,
+      page_on (g.D.Device.chip c.args.device.now) m c.loop-number.start c.in-Some.number i.0 i.1 i.3 w _ c.read-state.ensures c.take_page.new.m c.take_page.ensures.lent c.take_page.new.stage at,
     )
 
 pub unreachable-requires : goal.unreachable-requires
-unreachable-requires g c = none_left c.limits-limits.result c.loop-number.start (house c.loop-number.m) (c.in-default.ensures whole (house c.loop-number.m)) (λ f e. c.in-default-start.not-Ready f e)
+unreachable-requires g c = none_left c.limits-limits.result c.loop-number.start (house c.loop-number.m) (c.in_default.ensures whole (house c.loop-number.m)) (λ f e. c.in_default-start.not-Ready f e)
 
 pub returns : goal.returns
 returns g c =

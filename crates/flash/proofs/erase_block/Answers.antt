@@ -12,5 +12,5 @@ returns c =
       | then-fails v ↦ v.tear-is ∙ (c.fails-fails.ensures.tear ∙ ap (λ b. pick b own (replicate 16 1)) (sym v.if-fails.true))
       | else-fails v ↦ v.tear-is ∙ ap (λ b. pick b own (replicate 16 1)) (sym v.if-fails.false)
     ] in
-    let l = erase_left c.args.block c.if-fails.tear c.args.pages.now c.erase-block-as.new.pages c.args.power.now c.fails-fails.new.self c.fails-fails.result tear c.fails-fails.ensures c.erase-block-as.ensures in
+    let l = erase_left c.args.block c.if-fails.tear c.args.pages.now c.erase_block_as.new.pages c.args.power.now c.fails-fails.new.self c.fails-fails.result tear c.fails-fails.ensures c.erase_block_as.ensures in
     record { acted = l.acted; left = l.left; power = l.power }

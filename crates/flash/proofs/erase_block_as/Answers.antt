@@ -7,7 +7,7 @@ pub loop-i-init : goal.loop-i-init
 loop-i-init c = none_erased c.args.block c.args.tear.now c.args.pages.now
 
 pub loop-i-preserved : goal.loop-i-preserved
-loop-i-preserved c = one_erased c.args.block c.loop-i.i c.args.tear.now c.args.pages.now c.loop-i.pages c.erase-as.new.pages c.loop-i.invariant c.erase-as.ensures
+loop-i-preserved c = one_erased c.args.block c.loop-i.i c.args.tear.now c.args.pages.now c.loop-i.pages c.erase_as.new.pages c.loop-i.invariant c.erase_as.ensures
 
 pub returns : goal.returns
 returns c =

@@ -3,4 +3,4 @@ use Rattle.flash.proofs.Rows.{filled}
 use Rattle.flash.proofs.fill_row.Goals as goal
 
 pub returns : goal.returns
-returns c = filled c.args.row.now c.copy-from-slice.new.self c.args.how c.requires.0 ∙ ap (λ bs. c.args.how ∷ bs) c.copy-from-slice.ensures.after
+returns c = filled c.args.row.now c.copy_from_slice.new.self c.args.how c.requires.0 ∙ ap (λ bs. c.args.how ∷ bs) c.copy_from_slice.ensures.after

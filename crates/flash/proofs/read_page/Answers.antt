@@ -10,5 +10,5 @@ returns-in-1 c =
     let n : c.args.k * 513 + 513 - (c.args.k * 513 + 1) ≡ 512 = omega arith in
     sym (reads_written c.args.pages.now _ c.args.k c.requires c.in-1.is (ap (λ n. take n (drop (c.args.k * 513 + 1) c.args.pages.now)) n))
 
-pub returns-in-default : goal.returns-in-default
-returns-in-default c = sym (reads_spoilt c.args.pages.now c.args.k c.requires (search rules) (search rules))
+pub returns-in_default : goal.returns-in_default
+returns-in_default c = sym (reads_spoilt c.args.pages.now c.args.k c.requires (search rules) (search rules))

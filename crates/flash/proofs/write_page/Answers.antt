@@ -12,5 +12,5 @@ returns c =
       | then-fails v ↦ v.how-is ∙ (ap (λ t. get_or t 0 0) c.fails-fails.ensures.tear ∙ ap (λ b. pick b first 1) (sym v.if-fails.true))
       | else-fails v ↦ v.how-is ∙ ap (λ b. pick b first 1) (sym v.if-fails.false)
     ] in
-    let l = write_left c.args.k c.if-fails.how c.args.bytes.now c.args.pages.now c.write-as.new.pages c.args.power.now c.fails-fails.new.self c.fails-fails.result how c.fails-fails.ensures c.write-as.ensures in
+    let l = write_left c.args.k c.if-fails.how c.args.bytes.now c.args.pages.now c.write_as.new.pages c.args.power.now c.fails-fails.new.self c.fails-fails.result how c.fails-fails.ensures c.write_as.ensures in
     record { acted = l.acted; left = l.left; power = l.power }

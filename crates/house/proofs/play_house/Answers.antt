@@ -6,9 +6,9 @@ use Rattle.limits.specs.Opening.{limits_mean}
 use Rattle.limits.specs.declared.Limits.{Limits}
 use Rattle.house.proofs.play_house.Goals as goal
 
-pub play-calls-requires : goal.play-calls-requires
+pub play_calls-requires : goal.play_calls-requires
 unfolding ran
-play-calls-requires c = record {
+play_calls-requires c = record {
   sound = c.open-m.ensures.sound;
   reached = ([], ap (λ (l : Limits). new_house (limits_mean thin l)) c.open-m.ensures.limits ∙ sym (c.open-m.ensures.house thin));
 }

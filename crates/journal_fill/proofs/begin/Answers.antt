@@ -7,5 +7,5 @@ use Rattle.journal_fill.proofs.begin.Goals as goal
 
 pub returns : goal.returns
 returns c =
-    let new = c.put-words.ensures in
-    first 512 8 c.put-words.new.part (omega (arith, ap length new, row_length 4 (c.args.kind ∷ (c.args.number ∷ [])))) ∙ ap filled new
+    let new = c.put_words.ensures in
+    first 512 8 c.put_words.new.part (omega (arith, ap length new, row_length 4 (c.args.kind ∷ (c.args.number ∷ [])))) ∙ ap filled new

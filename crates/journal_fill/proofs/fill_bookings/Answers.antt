@@ -13,15 +13,15 @@ none = record { legs = []; class = 0; seats = 0; stands = 3; until = 0; paid = 0
 pub loop-i-init : goal.loop-i-init
 loop-i-init c =
     let all : List Booking = (house c.args.m.now).bookings in
-    none_put booking_row 15 4 8 c.args.first all c.booking-count.result c.min-count.result c.begin.new.page c.booking-count.ensures c.min-count.ensures c.begin.ensures
+    none_put booking_row 15 4 8 c.args.first all c.booking_count.result c.min-count.result c.begin.new.page c.booking_count.ensures c.min-count.ensures c.begin.ensures
 
 pub loop-i-preserved : goal.loop-i-preserved
 loop-i-preserved c =
     let all : List Booking = (house c.args.m.now).bookings in
-    row_put booking_row 15 4 8 c.args.first all c.booking-count.result c.min-count.result c.loop-i.i _ _ none c.loop-i.page c.put-words.new.part c.booking-words.result c.booking-count.ensures c.min-count.ensures c.loop-i-test.true c.loop-i.invariant
-    (c.booking-words.ensures.words ∙ ap booking_row c.booking-booking.ensures.means) c.booking-words.ensures.long c.put-words.ensures (omega arith) (omega arith) (omega arith)
+    row_put booking_row 15 4 8 c.args.first all c.booking_count.result c.min-count.result c.loop-i.i _ _ none c.loop-i.page c.put_words.new.part c.booking_words.result c.booking_count.ensures c.min-count.ensures c.loop-i-test.true c.loop-i.invariant
+    (c.booking_words.ensures.words ∙ ap booking_row c.booking-booking.ensures.means) c.booking_words.ensures.long c.put_words.ensures (omega arith) (omega arith) (omega arith)
 
 pub returns : goal.returns
 returns c =
     let all : List Booking = (house c.args.m.now).bookings in
-    all_put booking_row 15 4 8 c.args.first all c.booking-count.result c.min-count.result c.loop-i.i c.loop-i.page c.booking-count.ensures c.min-count.ensures c.loop-i-test.false c.loop-i.invariant
+    all_put booking_row 15 4 8 c.args.first all c.booking_count.result c.min-count.result c.loop-i.i c.loop-i.page c.booking_count.ensures c.min-count.ensures c.loop-i-test.false c.loop-i.invariant

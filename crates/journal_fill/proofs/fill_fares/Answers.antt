@@ -13,15 +13,15 @@ none = record { origin = 0; goal = 0; class = 0; most_legs = 0; price = 0 }
 pub loop-i-init : goal.loop-i-init
 loop-i-init c =
     let all : List Fare = (house c.args.m.now).fares in
-    none_put fare_row 5 3 25 c.args.first all c.fare-count.result c.min-count.result c.begin.new.page c.fare-count.ensures c.min-count.ensures c.begin.ensures
+    none_put fare_row 5 3 25 c.args.first all c.fare_count.result c.min-count.result c.begin.new.page c.fare_count.ensures c.min-count.ensures c.begin.ensures
 
 pub loop-i-preserved : goal.loop-i-preserved
 loop-i-preserved c =
     let all : List Fare = (house c.args.m.now).fares in
-    row_put fare_row 5 3 25 c.args.first all c.fare-count.result c.min-count.result c.loop-i.i _ _ none c.loop-i.page c.put-words.new.part c.fare-words.result c.fare-count.ensures c.min-count.ensures c.loop-i-test.true c.loop-i.invariant
-    (c.fare-words.ensures.words ∙ ap fare_row (c.fare-fare.ensures.means none)) c.fare-words.ensures.long c.put-words.ensures (omega arith) (omega arith) (omega arith)
+    row_put fare_row 5 3 25 c.args.first all c.fare_count.result c.min-count.result c.loop-i.i _ _ none c.loop-i.page c.put_words.new.part c.fare_words.result c.fare_count.ensures c.min-count.ensures c.loop-i-test.true c.loop-i.invariant
+    (c.fare_words.ensures.words ∙ ap fare_row (c.fare-fare.ensures.means none)) c.fare_words.ensures.long c.put_words.ensures (omega arith) (omega arith) (omega arith)
 
 pub returns : goal.returns
 returns c =
     let all : List Fare = (house c.args.m.now).fares in
-    all_put fare_row 5 3 25 c.args.first all c.fare-count.result c.min-count.result c.loop-i.i c.loop-i.page c.fare-count.ensures c.min-count.ensures c.loop-i-test.false c.loop-i.invariant
+    all_put fare_row 5 3 25 c.args.first all c.fare_count.result c.min-count.result c.loop-i.i c.loop-i.page c.fare_count.ensures c.min-count.ensures c.loop-i-test.false c.loop-i.invariant

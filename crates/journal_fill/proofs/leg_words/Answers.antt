@@ -7,5 +7,5 @@ use Rattle.journal_fill.proofs.leg_words.Goals as goal
 pub returns : goal.returns
 returns c =
     let g : Leg = c.args.g.now in
-    let w = leg_put g _ c.copy-from-slice.new.self c.copy-from-slice-2.new.self c.requires (search rules) (omega arith) c.copy-from-slice.ensures.after (c.copy-from-slice-2.ensures.after ∙ from_start g.classes g.limits) in
+    let w = leg_put g _ c.copy_from_slice.new.self c.copy_from_slice-2.new.self c.requires (search rules) (omega arith) c.copy_from_slice.ensures.after (c.copy_from_slice-2.ensures.after ∙ from_start g.classes g.limits) in
     record { words = w; long = ap length w ∙ leg_long g c.requires }

@@ -13,8 +13,8 @@ loop-i-init c = sym (over_none 0 c.args.part.now)
 
 pub loop-i-preserved : goal.loop-i-preserved
 loop-i-preserved c =
-    let new : c.copy-from-slice.new.self ≡ bytes_of 4 (get_or c.args.words.now c.loop-i.i 0) = c.copy-from-slice.ensures.after ∙ (c.to-le-bytes.ensures ∙ four_bytes _) in
-    row_more 4 0 _ _ c.loop-i.i c.args.words.now c.args.part.now c.loop-i.part c.copy-from-slice.new.self c.loop-i-test.true (omega arith) new c.loop-i.invariant (omega arith) (omega arith)
+    let new : c.copy_from_slice.new.self ≡ bytes_of 4 (get_or c.args.words.now c.loop-i.i 0) = c.copy_from_slice.ensures.after ∙ (c.to_le_bytes.ensures ∙ four_bytes _) in
+    row_more 4 0 _ _ c.loop-i.i c.args.words.now c.args.part.now c.loop-i.part c.copy_from_slice.new.self c.loop-i-test.true (omega arith) new c.loop-i.invariant (omega arith) (omega arith)
 
 pub returns : goal.returns
 returns c =

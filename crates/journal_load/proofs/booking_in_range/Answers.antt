@@ -5,37 +5,37 @@ use Rattle.journal_load.specs.Pages.{AllBelow}
 use Rattle.journal_load.proofs.Fits.{never, whole_part, asks_few, asks_pass, stands_pass, booking_fits}
 use Rattle.journal_load.proofs.booking_in_range.Goals as goal
 
-pub returns-then-not-asks-in-range : goal.returns-then-not-asks-in-range
-returns-then-not-asks-in-range c = record {
+pub returns-then-not-asks_in_range : goal.returns-then-not-asks_in_range
+returns-then-not-asks_in_range c = record {
   yes = never;
   few = never;
-  no = λ e h f. never (c.if-not-asks-in-range.ensures ∙ asks_pass c.args.legs c.args.b.now c.requires h f);
+  no = λ e h f. never (c.if-not-asks_in_range.ensures ∙ asks_pass c.args.legs c.args.b.now c.requires h f);
 }
 
-pub returns-then-not-stands-in-range : goal.returns-then-not-stands-in-range
-returns-then-not-stands-in-range c = record {
+pub returns-then-not-stands_in_range : goal.returns-then-not-stands_in_range
+returns-then-not-stands_in_range c = record {
   yes = never;
   few = never;
-  no = λ e h f. never (c.if-not-stands-in-range.ensures ∙ stands_pass c.args.legs c.args.b.now c.requires f);
+  no = λ e h f. never (c.if-not-stands_in_range.ensures ∙ stands_pass c.args.legs c.args.b.now c.requires f);
 }
 
-pub returns-then-not-are-below : goal.returns-then-not-are-below
-returns-then-not-are-below c =
+pub returns-then-not-are_below : goal.returns-then-not-are_below
+returns-then-not-are_below c =
     let b = c.args.b.now in
     record {
       yes = never;
       few = never;
-      no = λ e h f. c.are-below.ensures.no c.if-not-are-below.true (subst (AllBelow c.args.legs) (sym (whole_part b.count b.legs)) f.there);
+      no = λ e h f. c.are_below.ensures.no c.if-not-are_below.true (subst (AllBelow c.args.legs) (sym (whole_part b.count b.legs)) f.there);
     }
 
 pub returns : goal.returns
 returns c =
     let b = c.args.b.now in
-    let asks = sym c.if-not-asks-in-range.ensures in
-    let stands = sym c.if-not-stands-in-range.ensures in
-    let apart = c.are-apart.ensures ∙ ap no_twice (whole_part b.count b.legs) in
+    let asks = sym c.if-not-asks_in_range.ensures in
+    let stands = sym c.if-not-stands_in_range.ensures in
+    let apart = c.are_apart.ensures ∙ ap no_twice (whole_part b.count b.legs) in
     record {
-      yes = λ e. booking_fits c.args.legs b c.requires asks stands (subst (AllBelow c.args.legs) (whole_part b.count b.legs) (c.are-below.ensures.yes c.if-not-are-below.false)) (sym apart ∙ e);
+      yes = λ e. booking_fits c.args.legs b c.requires asks stands (subst (AllBelow c.args.legs) (whole_part b.count b.legs) (c.are_below.ensures.yes c.if-not-are_below.false)) (sym apart ∙ e);
       few = λ e. asks_few c.args.legs b c.requires asks;
       no = λ e h f. never (sym e ∙ apart ∙ f.apart);
     }

@@ -12,16 +12,16 @@ use Rattle.journal_load.proofs.booking_of.Goals as goal
 abbrev of_numbers : List ℕ → Booking
 of_numbers w = booking_read w (get_or w 13 0 + 4294967296 * get_or w 14 0)
 
-pub returns-then-not-booking-in-range : goal.returns-then-not-booking-in-range
-returns-then-not-booking-in-range c =
-    let out = c.words-at.new.out in
-    let is = c.read-booking-booking.ensures ∙ first_numbers out (get_or out 13 0 + 4294967296 * get_or out 14 0) ∙ ap of_numbers (c.words-at.ensures ∙ placed 15 c.args.page.now c.args.k) in
-    let n : c.read-booking-booking.result.count ≡ get_or (record_of 15 c.args.page.now c.args.k) 4 0 = ap (λ (b : Booking). b.count) is in
-    λ f h. c.booking-in-range.ensures.no c.if-not-booking-in-range.true (omega (arith, n, h)) (subst (FineBooking c.args.legs) (sym (ap booking_means is)) f)
+pub returns-then-not-booking_in_range : goal.returns-then-not-booking_in_range
+returns-then-not-booking_in_range c =
+    let out = c.words_at.new.out in
+    let is = c.read_booking-booking.ensures ∙ first_numbers out (get_or out 13 0 + 4294967296 * get_or out 14 0) ∙ ap of_numbers (c.words_at.ensures ∙ placed 15 c.args.page.now c.args.k) in
+    let n : c.read_booking-booking.result.count ≡ get_or (record_of 15 c.args.page.now c.args.k) 4 0 = ap (λ (b : Booking). b.count) is in
+    λ f h. c.booking_in_range.ensures.no c.if-not-booking_in_range.true (omega (arith, n, h)) (subst (FineBooking c.args.legs) (sym (ap booking_means is)) f)
 
 pub returns : goal.returns
 returns c =
-    let out = c.words-at.new.out in
-    let is = c.read-booking-booking.ensures ∙ first_numbers out (get_or out 13 0 + 4294967296 * get_or out 14 0) ∙ ap of_numbers (c.words-at.ensures ∙ placed 15 c.args.page.now c.args.k) in
-    let whole : length c.read-booking-booking.result.legs ≡ 8 = omega arith in
-    (ap booking_means is, for_memory c.args.legs c.read-booking-booking.result whole (c.booking-in-range.ensures.few c.if-not-booking-in-range.false) (c.booking-in-range.ensures.yes c.if-not-booking-in-range.false))
+    let out = c.words_at.new.out in
+    let is = c.read_booking-booking.ensures ∙ first_numbers out (get_or out 13 0 + 4294967296 * get_or out 14 0) ∙ ap of_numbers (c.words_at.ensures ∙ placed 15 c.args.page.now c.args.k) in
+    let whole : length c.read_booking-booking.result.legs ≡ 8 = omega arith in
+    (ap booking_means is, for_memory c.args.legs c.read_booking-booking.result whole (c.booking_in_range.ensures.few c.if-not-booking_in_range.false) (c.booking_in_range.ensures.yes c.if-not-booking_in_range.false))

@@ -8,14 +8,14 @@ use Rattle.journal_load.specs.Pages.{fare_fits}
 use Rattle.journal_load.proofs.Fits.{never, placed}
 use Rattle.journal_load.proofs.fare_of.Goals as goal
 
-pub returns-then-not-fare-in-range : goal.returns-then-not-fare-in-range
+pub returns-then-not-fare_in_range : goal.returns-then-not-fare_in_range
 unfolding good_fields
-returns-then-not-fare-in-range c =
-    let is = c.words-at.ensures ∙ placed 5 c.args.page.now c.args.k in
-    λ f. never (c.if-not-fare-in-range.ensures ∙ ap (λ (w : List ℕ). fare_fits (fare_read w)) is ∙ f)
+returns-then-not-fare_in_range c =
+    let is = c.words_at.ensures ∙ placed 5 c.args.page.now c.args.k in
+    λ f. never (c.if-not-fare_in_range.ensures ∙ ap (λ (w : List ℕ). fare_fits (fare_read w)) is ∙ f)
 
 pub returns : goal.returns
 unfolding good_fields
 returns c =
-    let is = c.words-at.ensures ∙ placed 5 c.args.page.now c.args.k in
-    (ap (λ (w : List ℕ). fare_means (fare_read w)) is, fare_fine (fare_read c.words-at.new.out) (sym c.if-not-fare-in-range.ensures))
+    let is = c.words_at.ensures ∙ placed 5 c.args.page.now c.args.k in
+    (ap (λ (w : List ℕ). fare_means (fare_read w)) is, fare_fine (fare_read c.words_at.new.out) (sym c.if-not-fare_in_range.ensures))

@@ -10,17 +10,17 @@ use Rattle.journal_load.proofs.leg_of.Goals as goal
 
 pub returns-then-leg-gt26 : goal.returns-then-leg-gt26
 returns-then-leg-gt26 c =
-    let is = c.read-leg-leg.ensures ∙ ap leg_read (c.words-at.ensures ∙ placed 31 c.args.page.now c.args.k) in
-    let n : c.read-leg-leg.result.classes ≡ get_or (record_of 31 c.args.page.now c.args.k) 4 0 = ap (λ (g : Leg). g.classes) is in
+    let is = c.read_leg-leg.ensures ∙ ap leg_read (c.words_at.ensures ∙ placed 31 c.args.page.now c.args.k) in
+    let n : c.read_leg-leg.result.classes ≡ get_or (record_of 31 c.args.page.now c.args.k) 4 0 = ap (λ (g : Leg). g.classes) is in
     λ f h. omega (arith, n, c.if-leg-gt26.true)
 
-pub returns-then-not-leg-in-range : goal.returns-then-not-leg-in-range
-returns-then-not-leg-in-range c =
-    let is = c.read-leg-leg.ensures ∙ ap leg_read (c.words-at.ensures ∙ placed 31 c.args.page.now c.args.k) in
-    λ f h. let t : false ≡ true = c.if-not-leg-in-range.ensures ∙ ap range is ∙ f in let z : ◌≡◌ {A = ℕ} 0 1 = cc in omega arith
+pub returns-then-not-leg_in_range : goal.returns-then-not-leg_in_range
+returns-then-not-leg_in_range c =
+    let is = c.read_leg-leg.ensures ∙ ap leg_read (c.words_at.ensures ∙ placed 31 c.args.page.now c.args.k) in
+    λ f h. let t : false ≡ true = c.if-not-leg_in_range.ensures ∙ ap range is ∙ f in let z : ◌≡◌ {A = ℕ} 0 1 = cc in omega arith
 
 pub returns : goal.returns
 returns c =
-    let is = c.read-leg-leg.ensures ∙ ap leg_read (c.words-at.ensures ∙ placed 31 c.args.page.now c.args.k) in
-    let n : c.read-leg-leg.result.classes ≤ length c.read-leg-leg.result.limits = omega arith in
-    (ap leg_means is, leg_fine c.read-leg-leg.result n (sym c.if-not-leg-in-range.ensures))
+    let is = c.read_leg-leg.ensures ∙ ap leg_read (c.words_at.ensures ∙ placed 31 c.args.page.now c.args.k) in
+    let n : c.read_leg-leg.result.classes ≤ length c.read_leg-leg.result.limits = omega arith in
+    (ap leg_means is, leg_fine c.read_leg-leg.result n (sym c.if-not-leg_in_range.ensures))

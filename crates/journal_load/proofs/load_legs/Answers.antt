@@ -12,11 +12,11 @@ use Rattle.journal_load.proofs.Told.{limits_counted}
 use Rattle.journal_load.proofs.Sorts.{leg_sort, none_came, more_came, so_many_came, all_came, page_passes, each_passes, grown_legs}
 use Rattle.journal_load.proofs.load_legs.Goals as goal
 
-pub returns-then-not-is-page : goal.returns-then-not-is-page
-returns-then-not-is-page c = record {
+pub returns-then-not-is_page : goal.returns-then-not-is_page
+returns-then-not-is_page c = record {
   loads = never;
   grown = never;
-  refused = λ e xs f n p r. never (c.if-not-is-page.ensures ∙ page_passes leg_sort c.args.page.now xs (ap unrow p ∙ r.unrow_row (some_legs xs) f) c.args.count n);
+  refused = λ e xs f n p r. never (c.if-not-is_page.ensures ∙ page_passes leg_sort c.args.page.now xs (ap unrow p ∙ r.unrow_row (some_legs xs) f) c.args.count n);
   sound = c.requires.sound;
   lent = lent_none c.args.m.now;
 }
@@ -26,24 +26,24 @@ loop-k-init c = (none_came leg_sort c.args.page.now (house c.args.m.now), c.requ
 
 pub loop-k-preserved : goal.loop-k-preserved
 loop-k-preserved c = (
-  more_came leg_sort c.args.page.now (house c.args.m.now) (house c.loop-k.m) (house c.push-leg.new.self) (leg_means c.in-Some.leg) c.loop-k.k c.loop-k.invariant.0 c.push-leg.ensures.house c.in-Some.ensures.0,
-  c.push-leg.ensures.sound,
-  lent_both c.args.m.now c.loop-k.m c.push-leg.new.self c.loop-k.invariant.2 c.push-leg.ensures.lent,
+  more_came leg_sort c.args.page.now (house c.args.m.now) (house c.loop-k.m) (house c.push_leg.new.self) (leg_means c.in-Some.leg) c.loop-k.k c.loop-k.invariant.0 c.push_leg.ensures.house c.in-Some.ensures.0,
+  c.push_leg.ensures.sound,
+  lent_both c.args.m.now c.loop-k.m c.push_leg.new.self c.loop-k.invariant.2 c.push_leg.ensures.lent,
 )
 
-pub returns-in-default : goal.returns-in-default
-returns-in-default c = record {
+pub returns-in_default : goal.returns-in_default
+returns-in_default c = record {
   loads = never;
   grown = never;
   refused = λ e xs f n p r.
       let here : c.loop-k.k < length xs = omega (arith, n, c.loop-k-test.true) in
-      c.in-default.ensures (each_passes leg_sort c.args.page.now FineLeg xs (ap unrow p ∙ r.unrow_row (some_legs xs) f) f.1 c.loop-k.k here) (limits_counted c.args.page.now xs f.1 p c.loop-k.k here);
+      c.in_default.ensures (each_passes leg_sort c.args.page.now FineLeg xs (ap unrow p ∙ r.unrow_row (some_legs xs) f) f.1 c.loop-k.k here) (limits_counted c.args.page.now xs f.1 p c.loop-k.k here);
   sound = c.loop-k.invariant.1;
   lent = c.loop-k.invariant.2;
 }
 
-pub push-leg-requires : goal.push-leg-requires
-push-leg-requires c = record {
+pub push_leg-requires : goal.push_leg-requires
+push_leg-requires c = record {
   sound = c.loop-k.invariant.1;
   space = omega (arith, c.requires.space, c.loop-k-test.true, so_many_came leg_sort c.args.page.now (house c.args.m.now) (house c.loop-k.m) c.loop-k.k c.loop-k.invariant.0, ap (λ (l : Limits). l.legs) c.loop-k.invariant.2.limits);
   fine = c.in-Some.ensures.1;
@@ -55,7 +55,7 @@ returns c =
     let h = house c.args.m.now in
     let g = house c.loop-k.m in
     record {
-      loads = λ e. all_came leg_sort c.args.page.now h g c.args.count c.loop-k.k (sym c.if-not-is-page.ensures) n c.loop-k.invariant.0;
+      loads = λ e. all_came leg_sort c.args.page.now h g c.args.count c.loop-k.k (sym c.if-not-is_page.ensures) n c.loop-k.invariant.0;
       grown = λ e. subst (λ (k : ℕ). Grown h g k 0 0) n (grown_legs c.args.page.now h g c.loop-k.k c.loop-k.invariant.0);
       refused = λ e. never (sym e);
       sound = c.loop-k.invariant.1;

@@ -4,4 +4,4 @@ use Rattle.wire.proofs.Fields.{numbers_length}
 use Rattle.journal_load.proofs.word.Goals as goal
 
 pub unreachable-requires : goal.unreachable-requires
-unreachable-requires c = omega (arith, numbers_length c.args.page.now, c.in-default.ensures)
+unreachable-requires c = omega (arith, numbers_length c.args.page.now, c.in_default.ensures)

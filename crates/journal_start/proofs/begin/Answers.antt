@@ -3,15 +3,15 @@ use Rattle.std.proofs.Common.{arith}
 use Rattle.journal_start.proofs.Steps.{past_at, none_kept}
 use Rattle.journal_start.proofs.begin.Goals as goal
 
-pub returns-else-pages-of-gt0 : goal.returns-else-pages-of-gt0
-returns-else-pages-of-gt0 c =
+pub returns-else-pages_of-gt0 : goal.returns-else-pages_of-gt0
+returns-else-pages_of-gt0 c =
     let m = c.args.m.now in
-    let n = c.set-clock.new.self in
-    let r = c.replay-on.ensures in
-    let e = c.pages-of.ensures.pages in
-    let k = none_kept m n c.args.second c.args.commit c.requires.new c.set-clock.ensures.house (omega arith) in
+    let n = c.set_clock.new.self in
+    let r = c.replay_on.ensures in
+    let e = c.pages_of.ensures.pages in
+    let k = none_kept m n c.args.second c.args.commit c.requires.new c.set_clock.ensures.house (omega arith) in
     record {
-      at = past_at m n c.limits.result c.replay-on.result c.args.second c.args.commit 0 _ c.limits.ensures c.set-clock.ensures.lent r.reading r.ranges r.past k.0 k.1;
-      sound = c.set-clock.ensures.sound;
-      lent = c.set-clock.ensures.lent;
+      at = past_at m n c.limits.result c.replay_on.result c.args.second c.args.commit 0 _ c.limits.ensures c.set_clock.ensures.lent r.reading r.ranges r.past k.0 k.1;
+      sound = c.set_clock.ensures.sound;
+      lent = c.set_clock.ensures.lent;
     }

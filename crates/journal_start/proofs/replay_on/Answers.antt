@@ -8,12 +8,12 @@ use Rattle.limits.specs.Opening.{limits_mean}
 use Rattle.journal_start.proofs.Steps.{found_ranges}
 use Rattle.journal_start.proofs.replay_on.Goals as goal
 
-pub returns-else-page-ring-blocks : goal.returns-else-page-ring-blocks
-returns-else-page-ring-blocks c = record {
+pub returns-else-page-ring_blocks : goal.returns-else-page-ring_blocks
+returns-else-page-ring_blocks c = record {
   reading = λ can h.
       (let r = c.ring_blocks.ensures.blocks can in
       let a : 16 * ring_blocks (limits_mean can c.args.limits.now) ≤ c.args.page = omega arith in
-      rw (le-ltb c.args.page (16 * ring_blocks (limits_mean can c.args.limits.now)) a) (ap start.Reading.ready (c.found-in.ensures (limits_mean can c.args.limits.now) h)));
-  ranges = found_ranges c.args.limits.now c.args.commit c.found-in.result c.args.second c.args.page c.requires.within c.requires.page c.found-in.ensures;
+      rw (le-ltb c.args.page (16 * ring_blocks (limits_mean can c.args.limits.now)) a) (ap start.Reading.ready (c.found_in.ensures (limits_mean can c.args.limits.now) h)));
+  ranges = found_ranges c.args.limits.now c.args.commit c.found_in.result c.args.second c.args.page c.requires.within c.requires.page c.found_in.ensures;
   past = λ m i. i;
 }

@@ -7,5 +7,5 @@ use Rattle.journal_start.specs.Starting.{NoCommit}
 use Rattle.calls.specs.Stage.{stage-calls}
 use Rattle.journal_start.proofs.take_first.Goals as goal
 
-pub returns-in-default : goal.returns-in-default
-returns-in-default c = subst (λ (l : Limits). NoCommit (limits_mean stage-calls l) (page_told c.args.page)) c.limits-limits.ensures (c.in-default.ensures stage-calls)
+pub returns-in_default : goal.returns-in_default
+returns-in_default c = subst (λ (l : Limits). NoCommit (limits_mean stage-calls l) (page_told c.args.page)) c.limits-limits.ensures (c.in_default.ensures stage-calls)

@@ -5,40 +5,40 @@ use Rattle.journal_start.proofs.Steps.{past_at, page_refused, whole_refused, who
 use Rattle.store.specs.Whole.{house}
 use Rattle.journal_start.proofs.take_kept.Goals as goal
 
-pub returns-then-not-load-checkpoint : goal.returns-then-not-load-checkpoint
-returns-then-not-load-checkpoint c = record {
+pub returns-then-not-load_checkpoint : goal.returns-then-not-load_checkpoint
+returns-then-not-load_checkpoint c = record {
   next =
-      page_refused c.args.m.now c.load-checkpoint.new.m c.args.second c.args.commit c.args.n (page_told c.args.page) c.in-Written.bytes.now (ap page_told c.in-Written.is)
-      (c.load-checkpoint.ensures.refused c.if-not-load-checkpoint.true);
-  sound = c.load-checkpoint.ensures.sound;
-  lent = c.load-checkpoint.ensures.lent;
+      page_refused c.args.m.now c.load_checkpoint.new.m c.args.second c.args.commit c.args.n (page_told c.args.page) c.in-Written.bytes.now (ap page_told c.in-Written.is)
+      (c.load_checkpoint.ensures.refused c.if-not-load_checkpoint.true);
+  sound = c.load_checkpoint.ensures.sound;
+  lent = c.load_checkpoint.ensures.lent;
 }
 
-pub returns-in-default-first-fit : goal.returns-in-default-first-fit
-returns-in-default-first-fit c =
-    let e = c.pages-of.ensures.pages in
+pub returns-in_default-first_fit : goal.returns-in_default-first_fit
+returns-in_default-first_fit c =
+    let e = c.pages_of.ensures.pages in
     let b = c.requires.fits.ranges.more in
     record {
       next =
-          whole_refused c.args.m.now c.load-checkpoint.new.m c.args.second c.args.commit c.args.n (page_told c.args.page) c.in-Written.bytes.now (ap page_told c.in-Written.is) (omega arith) b
-          (c.load-checkpoint.ensures.loads c.if-not-load-checkpoint.false) c.in-default-first-fit.field-0 c.in-default-first-fit.ensures.first;
-      sound = c.load-checkpoint.ensures.sound;
-      lent = c.load-checkpoint.ensures.lent;
+          whole_refused c.args.m.now c.load_checkpoint.new.m c.args.second c.args.commit c.args.n (page_told c.args.page) c.in-Written.bytes.now (ap page_told c.in-Written.is) (omega arith) b
+          (c.load_checkpoint.ensures.loads c.if-not-load_checkpoint.false) c.in_default-first_fit.field-0 c.in_default-first_fit.ensures.first;
+      sound = c.load_checkpoint.ensures.sound;
+      lent = c.load_checkpoint.ensures.lent;
     }
 
 pub returns : goal.returns
 returns c =
     let m = c.args.m.now in
-    let n = c.load-checkpoint.new.m in
-    let e = c.pages-of.ensures.pages in
+    let n = c.load_checkpoint.new.m in
+    let e = c.pages_of.ensures.pages in
     let b = c.requires.fits.ranges.more in
-    let r = c.replay-on.ensures in
+    let r = c.replay_on.ensures in
     record {
       next =
-          past_at m n c.limits.result c.replay-on.result c.args.second c.args.commit 0 _ c.limits.ensures c.load-checkpoint.ensures.lent r.reading r.ranges r.past
+          past_at m n c.limits.result c.replay_on.result c.args.second c.args.commit 0 _ c.limits.ensures c.load_checkpoint.ensures.lent r.reading r.ranges r.past
           (none_idle (house n) c.in-None.ensures.first)
           (whole_on m n c.args.second c.args.commit c.args.n (page_told c.args.page) c.in-Written.bytes.now (ap page_told c.in-Written.is) (omega arith) b
-          (c.load-checkpoint.ensures.loads c.if-not-load-checkpoint.false));
-      sound = c.load-checkpoint.ensures.sound;
-      lent = c.load-checkpoint.ensures.lent;
+          (c.load_checkpoint.ensures.loads c.if-not-load_checkpoint.false));
+      sound = c.load_checkpoint.ensures.sound;
+      lent = c.load_checkpoint.ensures.lent;
     }

@@ -9,18 +9,18 @@ use Rattle.journal_start.proofs.Steps.{never_at}
 use Rattle.calls.specs.Stage.{stage-calls}
 use Rattle.journal_start.proofs.take_second.Goals as goal
 
-pub returns-in-default : goal.returns-in-default
-returns-in-default c = record {
-  next = subst (λ (l : Limits). NoCommit (limits_mean stage-calls l) (page_told c.args.page)) c.limits-limits.ensures (c.in-default.ensures stage-calls);
+pub returns-in_default : goal.returns-in_default
+returns-in_default c = record {
+  next = subst (λ (l : Limits). NoCommit (limits_mean stage-calls l) (page_told c.args.page)) c.limits-limits.ensures (c.in_default.ensures stage-calls);
   sound = c.requires.sound;
   lent = lent_none c.args.m.now;
 }
 
-pub returns-in-default-choose : goal.returns-in-default-choose
-returns-in-default-choose c = record {
+pub returns-in_default-choose : goal.returns-in_default-choose
+returns-in_default-choose c = record {
   next =
       never_at c.args.m.now c.limits-limits.result c.args.first c.in-Some.commit (page_told c.args.page) c.limits-limits.ensures c.requires.fits.holds c.in-Some.ensures.0
-      c.in-default-choose.ensures.chosen;
+      c.in_default-choose.ensures.chosen;
   sound = c.requires.sound;
   lent = lent_none c.args.m.now;
 }

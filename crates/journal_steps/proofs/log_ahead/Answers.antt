@@ -9,17 +9,17 @@ use Rattle.journal_steps.proofs.Plans.{log_first, log_next, same_block}
 use Rattle.journal_steps.proofs.Ranges.{next_on, ring_most}
 use Rattle.journal_steps.proofs.log_ahead.Goals as goal
 
-pub block-after-requires : goal.block-after-requires
-block-after-requires c = (c.slot_blocks.ensures.few, c.ring_blocks.ensures.few, omega (arith, ring_most (chip_limits c.args.limits.now) c.requires.0, c.requires.1))
+pub block_after-requires : goal.block_after-requires
+block_after-requires c = (c.slot_blocks.ensures.few, c.ring_blocks.ensures.few, omega (arith, ring_most (chip_limits c.args.limits.now) c.requires.0, c.requires.1))
 
 pub returns-then-place-ne0 : goal.returns-then-place-ne0
 returns-then-place-ne0 c j n =
-    let w = c.write-call.ensures j n in
+    let w = c.write_call.ensures j n in
     (λ can h call a e. log_next (limits_mean can c.args.limits.now) (journal_of (limits_mean can c.args.limits.now) j h) c.args.place call a (ne_eqb _ _ (λ z. omega arith)) ∙ w.0 can h call a e, w.1, w.2)
 
 pub returns : goal.returns
 returns c j n =
-    let block : (can : ℕ → Bool) → c.block-after.result ≡ next_block (slot_blocks (limits_mean can c.args.limits.now)) (ring_blocks (limits_mean can c.args.limits.now)) c.args.place = λ can. c.block-after.ensures ∙ ap₂ (λ (s r : ℕ). next_block s r c.args.place) (c.slot_blocks.ensures.blocks can) (c.ring_blocks.ensures.blocks can) in (
+    let block : (can : ℕ → Bool) → c.block_after.result ≡ next_block (slot_blocks (limits_mean can c.args.limits.now)) (ring_blocks (limits_mean can c.args.limits.now)) c.args.place = λ can. c.block_after.ensures ∙ ap₂ (λ (s r : ℕ). next_block s r c.args.place) (c.slot_blocks.ensures.blocks can) (c.ring_blocks.ensures.blocks can) in (
       λ can h call a e.
           log_first (limits_mean can c.args.limits.now) (journal_of (limits_mean can c.args.limits.now) j h) c.args.place call a (eq-eqb _ _ (omega arith)) ∙ same_block _ _ _ (block can),
       c.requires.1,

@@ -5,8 +5,8 @@ use Rattle.journal_steps.proofs.Plans.{same_page}
 use Rattle.journal_steps.proofs.Ranges.{in_ring, ring_most}
 use Rattle.journal_steps.proofs.write_call.Goals as goal
 
-pub overflow-add-result : goal.overflow-add-result
-overflow-add-result c = omega (arith, ring_most (chip_limits c.args.limits.now) c.requires.0)
+pub overflow_add-result : goal.overflow_add-result
+overflow_add-result c = omega (arith, ring_most (chip_limits c.args.limits.now) c.requires.0)
 
 pub returns : goal.returns
 returns c j n = (

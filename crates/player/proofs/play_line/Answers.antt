@@ -9,15 +9,15 @@ use Rattle.player.proofs.play_line.Goals as goal
 
 pub unreachable-requires : goal.unreachable-requires
 unreachable-requires g c =
-    let means = c.in-Ok.ensures ∙ ap (call_of c.in-Ok.read.call) (sym c.as-slice.ensures.value) in
-    some_bytes c.args.line.now c.as-slice.result.now _ _ c.in-Ok.read.call means refl c.in-default.ensures
+    let means = c.in-Ok.ensures ∙ ap (call_of c.in-Ok.read.call) (sym c.as_slice.ensures.value) in
+    some_bytes c.args.line.now c.as_slice.result.now _ _ c.in-Ok.read.call means refl c.in_default.ensures
 
 pub returns : goal.returns
 returns g c =
-    let means = c.in-Ok.ensures ∙ ap (call_of c.in-Ok.read.call) (sym c.as-slice.ensures.value) in
+    let means = c.in-Ok.ensures ∙ ap (call_of c.in-Ok.read.call) (sym c.as_slice.ensures.value) in
     record {
-      played = subst (PlaysLine c.args.session.now c.play-row.new.session c.args.m.now c.play-row.new.m (line_call c.args.line.now) (g.D.Device.chip c.args.device.now) (g.D.Device.told c.args.device.now) (g.D.Device.chip c.play-row.new.device) (g.D.Device.told c.play-row.new.device))
-          (sym c.line-played-2.ensures)
-          (as_line _ _ _ _ _ _ _ _ _ _ c.play-row.result (reads_as c.args.line.now c.as-slice.result.now _ _ c.in-Some.length c.in-Ok.read.call means c.in-Some.ensures) c.play-row.ensures.played);
-      size = c.play-row.ensures.size;
+      played = subst (PlaysLine c.args.session.now c.play_row.new.session c.args.m.now c.play_row.new.m (line_call c.args.line.now) (g.D.Device.chip c.args.device.now) (g.D.Device.told c.args.device.now) (g.D.Device.chip c.play_row.new.device) (g.D.Device.told c.play_row.new.device))
+          (sym c.line_played-2.ensures)
+          (as_line _ _ _ _ _ _ _ _ _ _ c.play_row.result (reads_as c.args.line.now c.as_slice.result.now _ _ c.in-Some.length c.in-Ok.read.call means c.in-Some.ensures) c.play_row.ensures.played);
+      size = c.play_row.ensures.size;
     }

@@ -15,20 +15,20 @@ use Rattle.player.proofs.play_text.Goals as goal
 pub loop-rest-init : goal.loop-rest-init
 loop-rest-init g c = ((length c.args.text.now, omega arith, none_done _ _ _), c.requires.ready, c.requires.rests, lent_none c.args.m.now, refl)
 
-pub play-line-requires : goal.play-line-requires
-play-line-requires g c =
+pub play_line-requires : goal.play_line-requires
+play_line-requires g c =
     let i = c.loop-rest.invariant in
     record { ready = i.1; rests = i.2; size = subst (λ (l : Limits). room_for (chip_limits l) ≤ g.D.Device.blocks c.loop-rest.device) (sym i.3.limits) (omega (arith, c.requires.size, i.4)) }
 
-pub loop-rest-preserved-then-is-passed-over : goal.loop-rest-preserved-then-is-passed-over
-loop-rest-preserved-then-is-passed-over g c =
+pub loop-rest-preserved-then-is_passed_over : goal.loop-rest-preserved-then-is_passed_over
+loop-rest-preserved-then-is_passed_over g c =
     let m = c.loop-rest.m in
     let i = c.loop-rest.invariant in
     let w = i.0 in
     let b = c.loop-rest.rest.now in
     let some : 0 < length b = some_bytes b (sym c.loop-rest-test.ensures) in
-    let less = c.read-line-next.ensures.shorter some in
-    ((w.0 - 1, omega (arith, w.1), step_over _ _ _ c.args.m.now.limits c.loop-rest.session.journal (house m) w.0 b c.read-line-next.result.rest.now _ _ some w.1 c.read-line-next.ensures.rest (ap passed_over (sym c.read-line-next.ensures.line) ∙ sym c.if-is-passed-over.ensures) w.2), i.1, i.2, i.3, i.4)
+    let less = c.read_line-next.ensures.shorter some in
+    ((w.0 - 1, omega (arith, w.1), step_over _ _ _ c.args.m.now.limits c.loop-rest.session.journal (house m) w.0 b c.read_line-next.result.rest.now _ _ some w.1 c.read_line-next.ensures.rest (ap passed_over (sym c.read_line-next.ensures.line) ∙ sym c.if-is_passed_over.ensures) w.2), i.1, i.2, i.3, i.4)
 
 pub loop-rest-preserved : goal.loop-rest-preserved
 loop-rest-preserved g c =
@@ -37,13 +37,13 @@ loop-rest-preserved g c =
     let w = i.0 in
     let b = c.loop-rest.rest.now in
     let some : 0 < length b = some_bytes b (sym c.loop-rest-test.ensures) in
-    let less = c.read-line-next.ensures.shorter some in
-    let p = step_call _ _ _ c.args.m.now.limits c.loop-rest.session.journal (house m) w.0 b c.read-line-next.result.rest.now c.read-line-next.result.line.now _ _ some w.1 c.read-line-next.ensures.rest c.read-line-next.ensures.line (sym c.if-is-passed-over.ensures) w.2 in
+    let less = c.read_line-next.ensures.shorter some in
+    let p = step_call _ _ _ c.args.m.now.limits c.loop-rest.session.journal (house m) w.0 b c.read_line-next.result.rest.now c.read_line-next.result.line.now _ _ some w.1 c.read_line-next.ensures.rest c.read_line-next.ensures.line (sym c.if-is_passed_over.ensures) w.2 in
     let k = c.in-Held.ensures.played in (
-      (w.0 - 1, omega (arith, w.1), call_more _ _ _ c.args.m.now.limits _ _ m c.play-line.new.m _ _ _ _ _ _ i.3.limits p k),
+      (w.0 - 1, omega (arith, w.1), call_more _ _ _ c.args.m.now.limits _ _ m c.play_line.new.m _ _ _ _ _ _ i.3.limits p k),
       k.ready,
       k.rests refl,
-      lent_both c.args.m.now m c.play-line.new.m i.3 k.lent,
+      lent_both c.args.m.now m c.play_line.new.m i.3 k.lent,
       c.in-Held.ensures.size ∙ i.4,
     )
 
@@ -54,10 +54,10 @@ returns-in-Failed g c =
     let w = i.0 in
     let b = c.loop-rest.rest.now in
     let some : 0 < length b = some_bytes b (sym c.loop-rest-test.ensures) in
-    let less = c.read-line-next.ensures.shorter some in
-    let p = step_call _ _ _ c.args.m.now.limits c.loop-rest.session.journal (house m) w.0 b c.read-line-next.result.rest.now c.read-line-next.result.line.now _ _ some w.1 c.read-line-next.ensures.rest c.read-line-next.ensures.line (sym c.if-is-passed-over.ensures) w.2 in
+    let less = c.read_line-next.ensures.shorter some in
+    let p = step_call _ _ _ c.args.m.now.limits c.loop-rest.session.journal (house m) w.0 b c.read_line-next.result.rest.now c.read_line-next.result.line.now _ _ some w.1 c.read_line-next.ensures.rest c.read_line-next.ensures.line (sym c.if-is_passed_over.ensures) w.2 in
     let k = c.in-Failed.ensures.played in
-    record { played = call_cut _ _ _ c.args.m.now.limits _ _ m c.play-line.new.m _ _ _ _ _ _ i.3.limits p k; lent = lent_both c.args.m.now m c.play-line.new.m i.3 k.lent }
+    record { played = call_cut _ _ _ c.args.m.now.limits _ _ m c.play_line.new.m _ _ _ _ _ _ i.3.limits p k; lent = lent_both c.args.m.now m c.play_line.new.m i.3 k.lent }
 
 pub returns-in-NoMemory : goal.returns-in-NoMemory
 returns-in-NoMemory g c =

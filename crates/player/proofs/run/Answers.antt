@@ -14,31 +14,31 @@ use Rattle.player.proofs.Promise.{ended}
 use Rattle.calls.specs.Stage.{stage-calls}
 use Rattle.player.proofs.run.Goals as goal
 
-pub play-text-requires : goal.play-text-requires
-play-text-requires g c =
+pub play_text-requires : goal.play_text-requires
+play_text-requires g c =
     let b = c.in-Some.ensures.taken in
-    record { ready = b.ready; rests = b.rests; size = subst (λ (l : Limits). room_for (chip_limits l) ≤ g.D.Device.blocks c.args.device.now) (sym c.take-up.ensures.lent.limits) c.requires.size }
+    record { ready = b.ready; rests = b.rests; size = subst (λ (l : Limits). room_for (chip_limits l) ≤ g.D.Device.blocks c.args.device.now) (sym c.take_up.ensures.lent.limits) c.requires.size }
 
-pub returns-in-default : goal.returns-in-default
-returns-in-default g c =
-    let none = c.in-default.ensures.taken in
+pub returns-in_default : goal.returns-in_default
+returns-in_default g c =
+    let none = c.in_default.ensures.taken in
     let chip = g.D.Device.chip c.args.device.now in
     record {
-      promise = (λ before r. none before (subst (λ (l : Limits). Reads (limits_mean stage-calls l) page_bytes chip before) (sym c.take-up.ensures.lent.limits) r), refl, refl);
+      promise = (λ before r. none before (subst (λ (l : Limits). Reads (limits_mean stage-calls l) page_bytes chip before) (sym c.take_up.ensures.lent.limits) r), refl, refl);
       readable = text_readable _ c.args.text.now;
-      lent = c.take-up.ensures.lent;
+      lent = c.take_up.ensures.lent;
     }
 
 pub returns : goal.returns
 returns g c =
     let d = g.D.Device.chip c.args.device.now in
     let ts = g.D.Device.told c.args.device.now in
-    let e = g.D.Device.chip c.play-text.new.device in
-    let us = g.D.Device.told c.play-text.new.device in
-    let m = c.take-up.new.m in
+    let e = g.D.Device.chip c.play_text.new.device in
+    let us = g.D.Device.told c.play_text.new.device in
+    let m = c.take_up.new.m in
     let cs = text_calls c.args.text.now in
     record {
-      promise = subst (λ (l : Limits). RunEnded (limits_mean stage-calls l) cs d ts e us c.play-text.result) c.take-up.ensures.lent.limits (ended m c.in-Some.session cs d e ts us c.play-text.result c.in-Some.ensures.taken c.play-text.ensures.played);
+      promise = subst (λ (l : Limits). RunEnded (limits_mean stage-calls l) cs d ts e us c.play_text.result) c.take_up.ensures.lent.limits (ended m c.in-Some.session cs d e ts us c.play_text.result c.in-Some.ensures.taken c.play_text.ensures.played);
       readable = text_readable _ c.args.text.now;
-      lent = lent_both c.args.m.now m c.play-text.new.m c.take-up.ensures.lent c.play-text.ensures.lent;
+      lent = lent_both c.args.m.now m c.play_text.new.m c.take_up.ensures.lent c.play_text.ensures.lent;
     }

@@ -13,9 +13,9 @@ loop-k-preserved c =
     let fs : List Fare = (house c.args.m.now).fares in
     let p : List ℕ = c.args.part.now in
     let k : ℕ = c.loop-k.k in (
-      piece_more fs ls c.args.class (get_or p 0 0) (drop 1 p) k (fare_means c.fare.result) (coded c.loop-k.best) (coded c.offer.result) (coded c.cheaper-of-best.result) _
-          (omega arith) c.fare.ensures.means (asked_piece ls c.args.class (get_or p 0 0) (drop 1 p) c.fare.result c.stretch-of-asked.result (coded c.offer.result) c.stretch-of-asked.ensures c.offer.ensures) c.cheaper-of-best.ensures c.loop-k.invariant.0,
-      cheaper_le (coded c.loop-k.best) (coded c.offer.result) (coded c.cheaper-of-best.result) 100000001 c.cheaper-of-best.ensures c.loop-k.invariant.1
+      piece_more fs ls c.args.class (get_or p 0 0) (drop 1 p) k (fare_means c.fare.result) (coded c.loop-k.best) (coded c.offer.result) (coded c.cheaper_of-best.result) _
+          (omega arith) c.fare.ensures.means (asked_piece ls c.args.class (get_or p 0 0) (drop 1 p) c.fare.result c.stretch_of-asked.result (coded c.offer.result) c.stretch_of-asked.ensures c.offer.ensures) c.cheaper_of-best.ensures c.loop-k.invariant.0,
+      cheaper_le (coded c.loop-k.best) (coded c.offer.result) (coded c.cheaper_of-best.result) 100000001 c.cheaper_of-best.ensures c.loop-k.invariant.1
           (pick_le _ (coded c.offer.result) c.fare.result.price 100000000 c.offer.ensures c.fare.ensures.fine.price),
     )
 

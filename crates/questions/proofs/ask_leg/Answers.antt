@@ -10,8 +10,8 @@ use Rattle.questions.proofs.ask_leg.Goals as goal
 one_more : (xs ys : List ℕ) (i v : ℕ) → drop i xs ≡ drop i ys → drop (i + 1) (set xs i v) ≡ drop (i + 1) ys
 one_more xs ys i v e = drop-set-lt (i + 1) xs i v (omega arith) ∙ sym (drop-drop 1 i xs) ∙ ap (drop 1) e ∙ drop-drop 1 i ys
 
-pub returns-then-i-leg-count : goal.returns-then-i-leg-count
-returns-then-i-leg-count c = record { meant = no_such_leg c.args.m.now.limits (house c.args.m.now) c.args.leg (omega (arith, c.leg-count.ensures)); listed = omega arith; behind = refl }
+pub returns-then-i-leg_count : goal.returns-then-i-leg_count
+returns-then-i-leg_count c = record { meant = no_such_leg c.args.m.now.limits (house c.args.m.now) c.args.leg (omega (arith, c.leg_count.ensures)); listed = omega arith; behind = refl }
 
 pub loop-class-init : goal.loop-class-init
 loop-class-init c = (sym (each_none (house c.args.m.now).bookings c.args.leg), refl, c.told-sold)
@@ -31,7 +31,7 @@ returns c =
     let bs = (house c.args.m.now).bookings in
     let n : c.loop-class.class ≡ c.leg-classes.result.classes = omega arith in
     record {
-      meant = so_sold c.args.m.now.limits (house c.args.m.now) c.args.leg _ (omega (arith, c.leg-count.ensures))
+      meant = so_sold c.args.m.now.limits (house c.args.m.now) c.args.leg _ (omega (arith, c.leg_count.ensures))
           (ap (λ k. take k c.loop-class.sold) (sym n) ∙ c.loop-class.invariant.0 ∙ ap (each_class bs c.args.leg 0) (n ∙ c.leg-classes.ensures.classes));
       listed = c.leg-classes.ensures.fine.classes;
       behind = ap (λ k. drop k c.loop-class.sold) (sym n) ∙ c.loop-class.invariant.1 ∙ ap (λ k. drop k c.args.sold.now) n;

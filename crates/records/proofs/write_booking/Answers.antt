@@ -4,4 +4,4 @@ use Rattle.records.proofs.Parts.{booking_wrote}
 use Rattle.records.proofs.write_booking.Goals as goal
 
 pub returns : goal.returns
-returns c = booking_wrote c.args.b.now c.copy-from-slice.new.self _ (search rules) c.copy-from-slice.ensures.after
+returns c = booking_wrote c.args.b.now c.copy_from_slice.new.self _ (search rules) c.copy_from_slice.ensures.after

@@ -5,5 +5,5 @@ use Rattle.records.proofs.write_leg.Goals as goal
 
 pub returns : goal.returns
 returns c =
-    leg_wrote c.args.g.now c.args.w.now c.copy-from-slice.new.self c.copy-from-slice-2.new.self (search rules) (search rules) (search rules)
-    c.copy-from-slice.ensures.after c.copy-from-slice-2.ensures.after
+    leg_wrote c.args.g.now c.args.w.now c.copy_from_slice.new.self c.copy_from_slice-2.new.self (search rules) (search rules) (search rules)
+    c.copy_from_slice.ensures.after c.copy_from_slice-2.ensures.after

@@ -11,14 +11,14 @@ use Rattle.sales.proofs.show_house.Goals as goal
 
 pub open-m-requires : goal.open-m-requires
 open-m-requires c =
-    let legs : length c.as-mut-slice-legs.result.now ≡ 4096 = omega (arith, c.as-mut-slice-legs.ensures.len, c.in-ok-leg-words.ensures.made) in
-    let fares : length c.as-mut-slice-fares.result.now ≡ 768 = omega (arith, c.as-mut-slice-fares.ensures.len, c.in-ok-fare-words.ensures.made) in
-    let bookings : length c.as-mut-slice-bookings.result.now ≡ 2816 = omega (arith, c.as-mut-slice-bookings.ensures.len, c.in-ok-booking-words.ensures.made) in
-    let sums : length c.as-mut-slice-sums.result.now ≡ 128 = omega (arith, c.as-mut-slice-sums.ensures.len, c.in-ok-all-sums.ensures.made) in
-    memory_fits c.args.limits (lengths c.as-mut-slice-legs.result.now c.as-mut-slice-fares.result.now c.as-mut-slice-bookings.result.now c.as-mut-slice-sums.result.now) c.requires.served legs fares bookings sums
+    let legs : length c.as_mut_slice-legs.result.now ≡ 4096 = omega (arith, c.as_mut_slice-legs.ensures.len, c.in_ok-leg_words.ensures.made) in
+    let fares : length c.as_mut_slice-fares.result.now ≡ 768 = omega (arith, c.as_mut_slice-fares.ensures.len, c.in_ok-fare_words.ensures.made) in
+    let bookings : length c.as_mut_slice-bookings.result.now ≡ 2816 = omega (arith, c.as_mut_slice-bookings.ensures.len, c.in_ok-booking_words.ensures.made) in
+    let sums : length c.as_mut_slice-sums.result.now ≡ 128 = omega (arith, c.as_mut_slice-sums.ensures.len, c.in_ok-all_sums.ensures.made) in
+    memory_fits c.args.limits (lengths c.as_mut_slice-legs.result.now c.as_mut_slice-fares.result.now c.as_mut_slice-bookings.result.now c.as_mut_slice-sums.result.now) c.requires.served legs fares bookings sums
 
-pub take-up-requires : goal.take-up-requires
-take-up-requires c = record {
+pub take_up-requires : goal.take_up-requires
+take_up-requires c = record {
   sound = c.open-m.ensures.sound;
   fresh = c.open-m.ensures.house whole ∙ ap (λ (l : Limits). new_house (limits_mean whole l)) (sym c.open-m.ensures.limits);
   size = subst (λ (l : Limits). room_for (chip_limits l) ≤ blocks_in c.args.chip.now) (sym c.open-m.ensures.limits) c.requires.size;

@@ -6,17 +6,17 @@ use Rattle.scan.specs.Words.{numbers_in}
 use Rattle.scan.proofs.Readings.{numbers_more, numbers_unfit, numbers_done}
 use Rattle.scan.proofs.read_numbers.Goals as goal
 
-pub returns-in-err-next : goal.returns-in-err-next
-returns-in-err-next c =
+pub returns-in_err-next : goal.returns-in_err-next
+returns-in_err-next c =
     let p = err_from_is_err_and c.from-residual.result c.from-residual.ensures.1 in
-    let e = numbers_unfit c.min-most.result c.loop-i.i _ (take c.loop-i.i c.loop-i.values) c.loop-i.rest.now c.loop-i-test.true (sym c.in-err-next.ensures) in
+    let e = numbers_unfit c.min-most.result c.loop-i.i _ (take c.loop-i.i c.loop-i.values) c.loop-i.rest.now c.loop-i-test.true (sym c.in_err-next.ensures) in
     rw (p.1, p.2) (sym e ∙ sym c.loop-i.invariant.1 ∙ ap (λ n. numbers_in n c.args.line.now) c.min-most.ensures)
 
 pub loop-i-preserved : goal.loop-i-preserved
 loop-i-preserved c =
-    let e = numbers_more c.min-most.result c.loop-i.i _ (take c.loop-i.i c.loop-i.values) c.loop-i.rest.now _ c.loop-i-test.true (sym c.in-ok-next.ensures) in
-    let t = take_more_set c.loop-i.values c.loop-i.i c.in-ok-next.next.value (omega (arith, c.loop-i.invariant.0)) in
-    (omega (arith, length-set c.loop-i.values c.loop-i.i c.in-ok-next.next.value, c.loop-i.invariant.0), rw t (c.loop-i.invariant.1 ∙ e))
+    let e = numbers_more c.min-most.result c.loop-i.i _ (take c.loop-i.i c.loop-i.values) c.loop-i.rest.now _ c.loop-i-test.true (sym c.in_ok-next.ensures) in
+    let t = take_more_set c.loop-i.values c.loop-i.i c.in_ok-next.next.value (omega (arith, c.loop-i.invariant.0)) in
+    (omega (arith, length-set c.loop-i.values c.loop-i.i c.in_ok-next.next.value, c.loop-i.invariant.0), rw t (c.loop-i.invariant.1 ∙ e))
 
 pub returns : goal.returns
 returns c =

@@ -16,7 +16,7 @@ bookings-preserved c =
     let i : ℕ = get_or c.booking-b.result.legs c.loop-x.x 0 in
     let full : room h.legs h.bookings (i ∷ []) class seats ≡ false =
     leg_fails h.legs h.bookings class seats i c.leg-g.result c.leg-g.ensures.means (omega (arith, c.leg-g.ensures.fine.classes, c.leg-g.ensures.whole)) c.loop-c.c
-    (omega (arith, c.classes-to-c-end.ensures)) (omega (arith, c.taken.ensures.is)) in
+    (omega (arith, c.classes_to-c-end.ensures)) (omega (arith, c.taken.ensures.is)) in
     below_more _ _ c.bookings.invariant (
     ap (λ (b : Booking). fits h b) (sym c.booking-b.ensures.means)
     ∙ and_right _ _ (leg_blocks h.legs h.bookings class seats c.booking-b.result.legs c.booking-b.result.count c.loop-x.x
@@ -27,14 +27,14 @@ loop-x-preserved c =
     let h : House = house c.args.memory.now in
     below_more _ _ c.loop-x.invariant
     (leg_fits h.legs h.bookings c.booking-b.result.class c.booking-b.result.seats (get_or c.booking-b.result.legs c.loop-x.x 0) c.leg-g.result c.leg-g.ensures.means
-    (omega (arith, c.leg-g.ensures.fine.classes, c.leg-g.ensures.whole)) (λ j q. c.loop-c.invariant j (omega (arith, c.classes-to-c-end.ensures))))
+    (omega (arith, c.leg-g.ensures.fine.classes, c.leg-g.ensures.whole)) (λ j q. c.loop-c.invariant j (omega (arith, c.classes_to-c-end.ensures))))
 
 pub returns-in-bookings : goal.returns-in-bookings
 returns-in-bookings c =
     let h : House = house c.args.memory.now in
     let waits : c.booking-b.result.stands ≡ 0 = omega arith in
     let first : First h c.bookings.k = record {
-      there = omega (arith, c.booking-count-k-end.ensures);
+      there = omega (arith, c.booking_count-k-end.ensures);
       can =
           ap (λ (b : Booking). fits h b) (sym c.booking-b.ensures.means)
           ∙ and_from _ _ (eq-eqb c.booking-b.result.stands 0 waits)
@@ -47,5 +47,5 @@ returns-in-bookings c =
 pub returns : goal.returns
 returns c =
     let h : House = house c.args.memory.now in
-    let none : NoneBelow h (length h.bookings) = λ j q. c.bookings.invariant j (omega (arith, c.booking-count-k-end.ensures)) in
+    let none : NoneBelow h (length h.bookings) = λ j q. c.bookings.invariant j (omega (arith, c.booking_count-k-end.ensures)) in
     record { first = none; serves = found_one h None none }

@@ -4,5 +4,5 @@ use Rattle.text.proofs.is_word.Goals as goal
 
 pub returns : goal.returns
 returns c =
-    let e = same_from_decides _ _ (slice_eq-Decides Decides-eqb _ _ _ c.eq.ensures) (bytes_eq-Decides c.args.word.now c.as-bytes.result.now) in
-    rw c.as-bytes.ensures.value at e
+    let e = same_from_decides _ _ (slice_eq-Decides Decides-eqb _ _ _ c.eq.ensures) (bytes_eq-Decides c.args.word.now c.as_bytes.result.now) in
+    rw c.as_bytes.ensures.value at e

@@ -5,27 +5,27 @@ use Rattle.std.specs.Str.{bytes_eq}
 use Rattle.text.specs.CallLines.{joint}
 use Rattle.text.proofs.Listings.{behind_word, no_word, at_end, too_long}
 use Rattle.text.proofs.read_listing.Goals as goal
-use Rattle.text.proofs.read_listing.Goals.{then-takes-list+else-is-word, else-takes-list+else-is-empty}
+use Rattle.text.proofs.read_listing.Goals.{then-takes_list+else-is_word, else-takes_list+else-is_empty}
 
-pub returns-then-is-word : goal.returns-then-is-word
-returns-then-is-word c =
-    let f : bytes_eq (word_in c.args.line.now) (joint c.args.number) ≡ true = rw (c.read-word-next.ensures.word, c.list-word.ensures) at (sym c.if-is-word.ensures) in
-    let e = behind_word c.args.number c.args.line.now (sym c.if-takes-list.ensures) f in
-    rw e (rw c.read-word-next.ensures.rest at c.read-list.ensures)
+pub returns-then-is_word : goal.returns-then-is_word
+returns-then-is_word c =
+    let f : bytes_eq (word_in c.args.line.now) (joint c.args.number) ≡ true = rw (c.read_word-next.ensures.word, c.list_word.ensures) at (sym c.if-is_word.ensures) in
+    let e = behind_word c.args.number c.args.line.now (sym c.if-takes_list.ensures) f in
+    rw e (rw c.read_word-next.ensures.rest at c.read_list.ensures)
 
-pub returns-then-is-empty : goal.returns-then-is-empty
-returns-then-is-empty c =
-    let g : eqb (length (next_word c.args.line.now)) 0 ≡ true = rw c.skip-spaces.ensures at (sym c.if-is-empty.ensures) in
-    at_end c.args.number c.args.line.now (sym c.if-takes-list.ensures) g ∙ ap (λ l. got l _) (sym c.new.ensures.items)
+pub returns-then-is_empty : goal.returns-then-is_empty
+returns-then-is_empty c =
+    let g : eqb (length (next_word c.args.line.now)) 0 ≡ true = rw c.skip_spaces.ensures at (sym c.if-is_empty.ensures) in
+    at_end c.args.number c.args.line.now (sym c.if-takes_list.ensures) g ∙ ap (λ l. got l _) (sym c.new.ensures.items)
 
 pub returns : goal.returns
-returns c = elim c.if-takes-list.branch [
-  | then-takes-list+else-is-word w ↦ (
-      let f : bytes_eq (word_in c.args.line.now) (joint c.args.number) ≡ false = rw (w.read-word-next.ensures.word, w.list-word.ensures) at (sym w.if-is-word.ensures) in
-      no_word c.args.number c.args.line.now (sym w.if-takes-list.ensures) f ∙ ap (λ l. bad (length l)) (sym c.skip-spaces-2.ensures)
+returns c = elim c.if-takes_list.branch [
+  | then-takes_list+else-is_word w ↦ (
+      let f : bytes_eq (word_in c.args.line.now) (joint c.args.number) ≡ false = rw (w.read_word-next.ensures.word, w.list_word.ensures) at (sym w.if-is_word.ensures) in
+      no_word c.args.number c.args.line.now (sym w.if-takes_list.ensures) f ∙ ap (λ l. bad (length l)) (sym c.skip_spaces-2.ensures)
       )
-  | else-takes-list+else-is-empty w ↦ (
-      let g : eqb (length (next_word c.args.line.now)) 0 ≡ false = rw w.skip-spaces.ensures at (sym w.if-is-empty.ensures) in
-      too_long c.args.number c.args.line.now (sym w.if-takes-list.ensures) g ∙ ap (λ l. bad (length l)) (sym c.skip-spaces-2.ensures)
+  | else-takes_list+else-is_empty w ↦ (
+      let g : eqb (length (next_word c.args.line.now)) 0 ≡ false = rw w.skip_spaces.ensures at (sym w.if-is_empty.ensures) in
+      too_long c.args.number c.args.line.now (sym w.if-takes_list.ensures) g ∙ ap (λ l. bad (length l)) (sym c.skip_spaces-2.ensures)
       )
 ]

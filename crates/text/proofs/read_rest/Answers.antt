@@ -11,14 +11,14 @@ returns-in-Err c =
     let n : min c.in-Some.count 5 ≡ field_count c.args.number = ap (λ k. min k 5) c.in-Some.ensures.1 ∙ five_at_most c.args.number c.requires in
     numbers_stop c.args.number c.in-Err.left c.args.line.now (sym (rw n at c.in-Err.ensures))
 
-pub returns-in-err-list : goal.returns-in-err-list
-returns-in-err-list c =
+pub returns-in_err-list : goal.returns-in_err-list
+returns-in_err-list c =
     let n : min c.in-Some.count 5 ≡ field_count c.args.number = ap (λ k. min k 5) c.in-Some.ensures.1 ∙ five_at_most c.args.number c.requires in
     let p = err_from_is_err_and c.from-residual.result c.from-residual.ensures.1 in
-    rw (p.1, p.2) (list_stop c.args.number c.args.line.now _ c.in-Ok.fields.rest.now _ (sym (rw n at c.in-Ok.ensures)) c.in-err-list.ensures)
+    rw (p.1, p.2) (list_stop c.args.number c.args.line.now _ c.in-Ok.fields.rest.now _ (sym (rw n at c.in-Ok.ensures)) c.in_err-list.ensures)
 
 pub returns : goal.returns
 returns c =
     let n : min c.in-Some.count 5 ≡ field_count c.args.number = ap (λ k. min k 5) c.in-Some.ensures.1 ∙ five_at_most c.args.number c.requires in
-    list_go c.args.number c.args.line.now _ c.in-Ok.fields.rest.now (vec_items c.in-ok-list.list) (sym (rw n at c.in-Ok.ensures)) c.in-ok-list.ensures
-    ∙ ap (λ x. got x []) (made_take c.args.number c.in-Ok.fields.values (vec_items c.in-ok-list.list) c.requires ∙ sym (c.in-Some-new.ensures.1 (vec_items c.in-ok-list.list)))
+    list_go c.args.number c.args.line.now _ c.in-Ok.fields.rest.now (vec_items c.in_ok-list.list) (sym (rw n at c.in-Ok.ensures)) c.in_ok-list.ensures
+    ∙ ap (λ x. got x []) (made_take c.args.number c.in-Ok.fields.values (vec_items c.in_ok-list.list) c.requires ∙ sym (c.in-Some-new.ensures.1 (vec_items c.in_ok-list.list)))

@@ -5,14 +5,14 @@ use Rattle.text.specs.CallLines.{place_among, verbs}
 use Rattle.text.proofs.Verbs.{found_here, found_later}
 use Rattle.text.proofs.verb_number.Goals as goal
 
-pub returns-then-is-word : goal.returns-then-is-word
-returns-then-is-word c =
-    let e = found_here c.args.word.now verbs c.loop-number.number c.loop-number-test.true (rw c.verb.ensures at (sym c.if-is-word.ensures)) in
+pub returns-then-is_word : goal.returns-then-is_word
+returns-then-is_word c =
+    let e = found_here c.args.word.now verbs c.loop-number.number c.loop-number-test.true (rw c.verb.ensures at (sym c.if-is_word.ensures)) in
     (omega arith, omega (arith, c.loop-number.invariant))
 
 pub loop-number-preserved : goal.loop-number-preserved
 loop-number-preserved c =
-    let e = found_later c.args.word.now verbs c.loop-number.number c.loop-number-test.true (rw c.verb.ensures at (sym c.if-is-word.ensures)) in
+    let e = found_later c.args.word.now verbs c.loop-number.number c.loop-number-test.true (rw c.verb.ensures at (sym c.if-is_word.ensures)) in
     omega (arith, c.loop-number.invariant)
 
 pub returns : goal.returns

@@ -11,38 +11,38 @@ head_row k n fs = let e : n - 0 ≡ n = omega arith in ap (λ m. k ∷ row_of 4 
 
 pub returns-then-out-end : goal.returns-then-out-end
 returns-then-out-end c =
-    let p = plain c.args.call _ _ _ c.args.list.now c.parts-number.ensures c.in-Some.ensures.1 c.if-not-takes-list.ensures in
+    let p = plain c.args.call _ _ _ c.args.list.now c.parts-number.ensures c.in-Some.ensures.1 c.if-not-takes_list.ensures in
     (inr (omega (arith, p.long)), refl)
 
-pub returns-then-not-takes-list : goal.returns-then-not-takes-list
-returns-then-not-takes-list c =
-    let p = plain c.args.call _ _ _ c.args.list.now c.parts-number.ensures c.in-Some.ensures.1 c.if-not-takes-list.ensures in (
+pub returns-then-not-takes_list : goal.returns-then-not-takes_list
+returns-then-not-takes_list c =
+    let p = plain c.args.call _ _ _ c.args.list.now c.parts-number.ensures c.in-Some.ensures.1 c.if-not-takes_list.ensures in (
       omega (arith, ap length p.unlisted),
       omega (arith, p.long),
       sym p.long,
-      c.put-head.ensures ∙ (ap (λ x. over 0 x c.args.out.now) (head_row c.parts-number.result.0 c.in-Some.count c.parts-number.result.1 ∙ sym p.row) ∙ over_front _ _),
+      c.put_head.ensures ∙ (ap (λ x. over 0 x c.args.out.now) (head_row c.parts-number.result.0 c.in-Some.count c.parts-number.result.1 ∙ sym p.row) ∙ over_front _ _),
     )
 
 pub returns-then-list-gt-LONGEST-LIST : goal.returns-then-list-gt-LONGEST-LIST
 returns-then-list-gt-LONGEST-LIST c =
-    let p = listed c.args.call _ _ _ c.args.list.now c.parts-number.ensures c.in-Some.ensures.1 c.if-not-takes-list.ensures in
+    let p = listed c.args.call _ _ _ c.args.list.now c.parts-number.ensures c.in-Some.ensures.1 c.if-not-takes_list.ensures in
     (inl (omega (arith, ap length p.listed)), refl)
 
 pub returns-then-out-length : goal.returns-then-out-length
 returns-then-out-length c =
-    let p = listed c.args.call _ _ _ c.args.list.now c.parts-number.ensures c.in-Some.ensures.1 c.if-not-takes-list.ensures in
+    let p = listed c.args.call _ _ _ c.args.list.now c.parts-number.ensures c.in-Some.ensures.1 c.if-not-takes_list.ensures in
     (inr (omega (arith, p.long)), refl)
 
 pub returns : goal.returns
 returns c =
-    let p = listed c.args.call _ _ _ c.args.list.now c.parts-number.ensures c.in-Some.ensures.1 c.if-not-takes-list.ensures in (
+    let p = listed c.args.call _ _ _ c.args.list.now c.parts-number.ensures c.in-Some.ensures.1 c.if-not-takes_list.ensures in (
       omega (arith, ap length p.listed),
       omega (arith, p.long),
       sym p.long,
       then_more 0 _ (c.parts-number.result.0 ∷ row_of 4 (take c.in-Some.count c.parts-number.result.1)) (length c.args.list.now ∷ row_of 4 c.args.list.now) c.args.out.now _ _
           (omega (arith, p.head))
-          (c.put-head-2.ensures ∙ ap (λ x. over 0 x c.args.out.now) (head_row c.parts-number.result.0 c.in-Some.count c.parts-number.result.1))
-          c.put-list.ensures
+          (c.put_head-2.ensures ∙ ap (λ x. over 0 x c.args.out.now) (head_row c.parts-number.result.0 c.in-Some.count c.parts-number.result.1))
+          c.put_list.ensures
           (omega (arith, p.head))
           ∙ (ap (λ x. over 0 x c.args.out.now) (sym p.row) ∙ over_front _ _),
     )

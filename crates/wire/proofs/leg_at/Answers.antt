@@ -3,13 +3,13 @@ use Rattle.std.proofs.Common.{arith}
 use Rattle.wire.proofs.Fields.{numbers_length, numbers_at}
 use Rattle.wire.proofs.leg_at.Goals as goal
 
-pub overflow-mul-i : goal.overflow-mul-i
-overflow-mul-i c = omega (arith, numbers_length c.args.part.now, c.leg-count.ensures)
+pub overflow_mul-i : goal.overflow_mul-i
+overflow_mul-i c = omega (arith, numbers_length c.args.part.now, c.leg_count.ensures)
 
-pub number-at-requires : goal.number-at-requires
-number-at-requires c = omega (arith, numbers_length c.args.part.now, c.leg-count.ensures)
+pub number_at-requires : goal.number_at-requires
+number_at-requires c = omega (arith, numbers_length c.args.part.now, c.leg_count.ensures)
 
 pub returns : goal.returns
 returns c =
-    let n = numbers_at c.args.part.now c.args.i (omega (arith, numbers_length c.args.part.now, c.leg-count.ensures)) in
-    (omega (arith, c.leg-count.ensures), omega (arith, n, c.number-at.ensures))
+    let n = numbers_at c.args.part.now c.args.i (omega (arith, numbers_length c.args.part.now, c.leg_count.ensures)) in
+    (omega (arith, c.leg_count.ensures), omega (arith, n, c.number_at.ensures))

@@ -3,8 +3,8 @@ use Rattle.std.proofs.Common.{arith}
 use Rattle.wire.proofs.Decoding.{list_at_listed, list_at_plain}
 use Rattle.wire.proofs.list_place.Goals as goal
 
-pub returns-then-takes-list : goal.returns-then-takes-list
-returns-then-takes-list c = omega (arith, list_at_listed c.args.number c.args.fields c.requires.1 c.if-takes-list.ensures)
+pub returns-then-takes_list : goal.returns-then-takes_list
+returns-then-takes_list c = omega (arith, list_at_listed c.args.number c.args.fields c.requires.1 c.if-takes_list.ensures)
 
-pub returns-else-takes-list : goal.returns-else-takes-list
-returns-else-takes-list c = omega (arith, list_at_plain c.args.number c.args.fields c.requires.1 c.if-takes-list.ensures)
+pub returns-else-takes_list : goal.returns-else-takes_list
+returns-else-takes_list c = omega (arith, list_at_plain c.args.number c.args.fields c.requires.1 c.if-takes_list.ensures)

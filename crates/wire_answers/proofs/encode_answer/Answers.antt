@@ -14,29 +14,29 @@ returns-then-list-gt-MOST-CLASSES c =
 pub returns-in-Refused : goal.returns-in-Refused
 unfolding answer_bytes listed
 returns-in-Refused c =
-    subst (λ a. AnswerWritten (answer_of a c.args.list.now) c.args.out.now c.put-case.new.out (Some c.put-case.result)) (sym c.in-Refused.is)
-    (written_so (refused c.in-Refused.refusal c.in-Refused.place) _ 0 (c.in-Refused.refusal ∷ (c.in-Refused.place ∷ [])) _ _ _ refl refl c.put-case.ensures.length c.put-case.ensures.after (omega arith))
+    subst (λ a. AnswerWritten (answer_of a c.args.list.now) c.args.out.now c.put_case.new.out (Some c.put_case.result)) (sym c.in-Refused.is)
+    (written_so (refused c.in-Refused.refusal c.in-Refused.place) _ 0 (c.in-Refused.refusal ∷ (c.in-Refused.place ∷ [])) _ _ _ refl refl c.put_case.ensures.length c.put_case.ensures.after (omega arith))
 
 pub returns-in-Number : goal.returns-in-Number
 unfolding answer_bytes listed
 returns-in-Number c =
-    subst (λ a. AnswerWritten (answer_of a c.args.list.now) c.args.out.now c.put-case-in-Number.new.out (Some c.put-case-in-Number.result)) (sym c.in-Number.is)
-    (written_so (number c.in-Number.value) _ 1 (c.in-Number.value ∷ []) _ _ _ refl refl c.put-case-in-Number.ensures.length c.put-case-in-Number.ensures.after (omega arith))
+    subst (λ a. AnswerWritten (answer_of a c.args.list.now) c.args.out.now c.put_case-in-Number.new.out (Some c.put_case-in-Number.result)) (sym c.in-Number.is)
+    (written_so (number c.in-Number.value) _ 1 (c.in-Number.value ∷ []) _ _ _ refl refl c.put_case-in-Number.ensures.length c.put_case-in-Number.ensures.after (omega arith))
 
 pub returns-in-Booked : goal.returns-in-Booked
 unfolding answer_bytes listed
 returns-in-Booked c =
-    subst (λ a. AnswerWritten (answer_of a c.args.list.now) c.args.out.now c.put-case-in-Booked.new.out (Some c.put-case-in-Booked.result)) (sym c.in-Booked.is)
-    (written_so (two c.in-Booked.booking c.in-Booked.stands) _ 2 (c.in-Booked.booking ∷ (c.in-Booked.stands ∷ [])) _ _ _ refl refl c.put-case-in-Booked.ensures.length c.put-case-in-Booked.ensures.after (omega arith))
+    subst (λ a. AnswerWritten (answer_of a c.args.list.now) c.args.out.now c.put_case-in-Booked.new.out (Some c.put_case-in-Booked.result)) (sym c.in-Booked.is)
+    (written_so (two c.in-Booked.booking c.in-Booked.stands) _ 2 (c.in-Booked.booking ∷ (c.in-Booked.stands ∷ [])) _ _ _ refl refl c.put_case-in-Booked.ensures.length c.put_case-in-Booked.ensures.after (omega arith))
 
 pub returns-in-Stands : goal.returns-in-Stands
 unfolding answer_bytes listed
 returns-in-Stands c =
-    subst (λ a. AnswerWritten (answer_of a c.args.list.now) c.args.out.now c.put-case-in-Stands.new.out (Some c.put-case-in-Stands.result)) (sym c.in-Stands.is)
-    (written_so (stands_so c.in-Stands.stands c.in-Stands.until c.in-Stands.paid) _ 3 (c.in-Stands.stands ∷ (c.in-Stands.until ∷ (c.in-Stands.paid ∷ []))) _ _ _ refl refl c.put-case-in-Stands.ensures.length c.put-case-in-Stands.ensures.after (omega arith))
+    subst (λ a. AnswerWritten (answer_of a c.args.list.now) c.args.out.now c.put_case-in-Stands.new.out (Some c.put_case-in-Stands.result)) (sym c.in-Stands.is)
+    (written_so (stands_so c.in-Stands.stands c.in-Stands.until c.in-Stands.paid) _ 3 (c.in-Stands.stands ∷ (c.in-Stands.until ∷ (c.in-Stands.paid ∷ []))) _ _ _ refl refl c.put_case-in-Stands.ensures.length c.put_case-in-Stands.ensures.after (omega arith))
 
 pub returns-else-list-gt-MOST-CLASSES : goal.returns-else-list-gt-MOST-CLASSES
 unfolding answer_bytes listed
 returns-else-list-gt-MOST-CLASSES c =
-    subst (λ a. AnswerWritten (answer_of a c.args.list.now) c.args.out.now c.put-sold.new.out (Some c.put-sold.result)) (sym c.in-Sold.is)
-    (written_list c.args.list.now c.args.out.now _ _ (omega arith) c.put-sold.ensures.length c.put-sold.ensures.after)
+    subst (λ a. AnswerWritten (answer_of a c.args.list.now) c.args.out.now c.put_sold.new.out (Some c.put_sold.result)) (sym c.in-Sold.is)
+    (written_list c.args.list.now c.args.out.now _ _ (omega arith) c.put_sold.ensures.length c.put_sold.ensures.after)

@@ -8,5 +8,5 @@ pub returns : goal.returns
 returns c =
     record {
       length = omega arith;
-      after = then_more 0 _ (c.args.number ∷ []) (row_of 8 c.args.values.now) c.args.out.now _ _ (omega arith) (over_byte 0 c.args.number c.args.out.now (omega arith)) c.put-values.ensures (omega arith) ∙ over_front _ _;
+      after = then_more 0 _ (c.args.number ∷ []) (row_of 8 c.args.values.now) c.args.out.now _ _ (omega arith) (over_byte 0 c.args.number c.args.out.now (omega arith)) c.put_values.ensures (omega arith) ∙ over_front _ _;
     }

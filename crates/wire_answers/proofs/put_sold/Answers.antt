@@ -13,5 +13,5 @@ returns c =
     then_more 0 1 (4 ∷ []) (length list ∷ []) old _ _ (omega arith) (over_byte 0 4 old (omega arith)) (over_byte 1 (length list) (set old 0 4) (simp length-set (omega arith))) refl in
     record {
       length = omega arith;
-      after = then_more 0 _ (4 ∷ (length list ∷ [])) (row_of 8 list) old _ _ (omega arith) both c.put-values.ensures (omega arith) ∙ over_front _ _;
+      after = then_more 0 _ (4 ∷ (length list ∷ [])) (row_of 8 list) old _ _ (omega arith) both c.put_values.ensures (omega arith) ∙ over_front _ _;
     }

@@ -5,9 +5,9 @@ use Rattle.chips.proofs.MemoryChip.erase_block.Goals as goal
 
 pub returns : goal.returns
 returns c = record {
-  acted = acted_in _ _ _ _ _ (quiet_wipe c.args.block) c.erase-block-held.ensures.acted;
-  size = ap (λ n. n / 8208) c.erase-block-held.ensures.acted.as_long;
-  left = fun_ext c.erase-block-held.ensures.left.pages;
-  power = c.erase-block-held.ensures.power;
+  acted = acted_in _ _ _ _ _ (quiet_wipe c.args.block) c.erase_block-held.ensures.acted;
+  size = ap (λ n. n / 8208) c.erase_block-held.ensures.acted.as_long;
+  left = fun_ext c.erase_block-held.ensures.left.pages;
+  power = c.erase_block-held.ensures.power;
   lent = refl;
 }

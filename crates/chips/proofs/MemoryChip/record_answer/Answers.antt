@@ -16,7 +16,7 @@ returns-then-fails c = record {
 
 pub returns-in-Ok : goal.returns-in-Ok
 returns-in-Ok c =
-    let one = recorded (vec_items c.args.self.now.said) (vec_items c.push.new.self) c.args.answer c.args.list.now c.copy-from-slice.new.self _ c.in-Ok.ensures.items c.copy-from-slice.ensures.after in
+    let one = recorded (vec_items c.args.self.now.said) (vec_items c.push.new.self) c.args.answer c.args.list.now c.copy_from_slice.new.self _ c.in-Ok.ensures.items c.copy_from_slice.ensures.after in
     record {
       acted = given _ _ _ _ one;
       size = refl;

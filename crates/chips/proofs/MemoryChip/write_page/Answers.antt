@@ -5,9 +5,9 @@ use Rattle.chips.proofs.MemoryChip.write_page.Goals as goal
 
 pub returns : goal.returns
 returns c = record {
-  acted = acted_in _ _ _ _ _ (quiet_write c.args.page c.args.bytes.now) c.write-page-held.ensures.acted;
-  size = ap (λ n. n / 8208) c.write-page-held.ensures.acted.as_long;
-  left = fun_ext c.write-page-held.ensures.left.pages;
-  power = c.write-page-held.ensures.power;
+  acted = acted_in _ _ _ _ _ (quiet_write c.args.page c.args.bytes.now) c.write_page-held.ensures.acted;
+  size = ap (λ n. n / 8208) c.write_page-held.ensures.acted.as_long;
+  left = fun_ext c.write_page-held.ensures.left.pages;
+  power = c.write_page-held.ensures.power;
   lent = refl;
 }

@@ -3,5 +3,5 @@ use Rattle.std.proofs.Common.{◌≡◌, sym, ◌∙◌, arith}
 use Rattle.chips.proofs.Acts.{as_many}
 use Rattle.chips.proofs.MemoryChipDevice.read.Goals as goal
 
-pub copy-from-slice-requires : goal.copy-from-slice-requires
-copy-from-slice-requires c = c.told-bytes ∙ sym (as_many c.args.self.now.pages.now c.in-Written.found.now c.args.page (omega (arith, c.requires)) c.in-Written.ensures)
+pub copy_from_slice-requires : goal.copy_from_slice-requires
+copy_from_slice-requires c = c.told-bytes ∙ sym (as_many c.args.self.now.pages.now c.in-Written.found.now c.args.page (omega (arith, c.requires)) c.in-Written.ensures)

@@ -11,14 +11,14 @@ use Rattle.journal_steps.proofs.Ranges.{log_short, most_few}
 use Rattle.journal_steps.proofs.Journal.advance.Goals as goal
 use Rattle.journal_steps.proofs.Journal.advance.Goals.{then-self, else-self}
 
-pub has-room-requires : goal.has-room-requires
-has-room-requires c = omega (arith, most_few (chip_limits c.args.limits.now) c.requires.range, c.requires.fits.pages)
+pub has_room-requires : goal.has_room-requires
+has_room-requires c = omega (arith, most_few (chip_limits c.args.limits.now) c.requires.range, c.requires.fits.pages)
 
-pub returns-then-has-room : goal.returns-then-has-room
-returns-then-has-room c =
+pub returns-then-has_room : goal.returns-then-has_room
+returns-then-has_room c =
     let l = chip_limits c.args.limits.now in
     let j = c.args.self.now in
-    let room = sym c.has-room.ensures ∙ c.if-has-room.true in
+    let room = sym c.has_room.ensures ∙ c.if-has_room.true in
     let less = ltb-true j.used (longest j.pages) (and_parts _ _ room).1 in
     record {
       advanced = logged c.args.limits.now c.args.pages j c.place-place.result room c.place-place.ensures.place;
@@ -35,7 +35,7 @@ returns c =
       | else-self v ↦ v.work-is ∙ ap (λ (b : Bool). pick b work.Erasing work.Opening) (sym v.if-self.false)
     ] in
     record {
-      advanced = checkpointed c.args.limits.now c.args.pages j c.place-place.result c.next-self.result c.if-self.work (sym c.has-room.ensures ∙ c.if-has-room.false) c.place-place.ensures.place c.next-self.ensures w;
+      advanced = checkpointed c.args.limits.now c.args.pages j c.place-place.result c.next-self.result c.if-self.work (sym c.has_room.ensures ∙ c.if-has_room.false) c.place-place.ensures.place c.next-self.ensures w;
       fits = record { begins = c.place-place.ensures.within; used = omega arith; pages = c.requires.pages };
       work = subst (WorkFits c.args.limits.now c.args.pages) (sym w) (either j.committed);
     }

@@ -20,11 +20,11 @@ returns-then-number-pages c = record {
 
 pub returns-then-number-ne0 : goal.returns-then-number-ne0
 returns-then-number-ne0 c =
-    let w = c.write-page.ensures.work c.args.pages (omega arith) in
+    let w = c.write_page.ensures.work c.args.pages (omega arith) in
     record {
       gives = λ can h call a e.
           let m = limits_mean can c.args.limits.now in
-          fill_next m (journal_of m c.args.self.now h) c.args.number a (omega arith) (ne_eqb _ _ (λ z. omega arith)) ∙ c.write-page.ensures.gives c.args.pages (omega arith) can h call a e;
+          fill_next m (journal_of m c.args.self.now h) c.args.number a (omega arith) (ne_eqb _ _ (λ z. omega arith)) ∙ c.write_page.ensures.gives c.args.pages (omega arith) can h call a e;
       work = w.0;
       act = w.1;
     }

@@ -9,5 +9,5 @@ use Rattle.journal_steps.proofs.Journal.place.Goals as goal
 pub returns : goal.returns
 returns c =
     let R = ring_blocks (chip_limits c.args.limits.now) in
-    let e : c.goes-round.result ≡ around (16 * R) (c.args.self.now.begins + c.args.self.now.used) = c.goes-round.ensures.0 ∙ ap (λ (n : ℕ). around (16 * n) (c.args.self.now.begins + c.args.self.now.used)) (c.ring_blocks.ensures.blocks whole) in
+    let e : c.goes_round.result ≡ around (16 * R) (c.args.self.now.begins + c.args.self.now.used) = c.goes_round.ensures.0 ∙ ap (λ (n : ℕ). around (16 * n) (c.args.self.now.begins + c.args.self.now.used)) (c.ring_blocks.ensures.blocks whole) in
     record { place = e; within = omega (arith, e, round_in (16 * R) (c.args.self.now.begins + c.args.self.now.used) (omega (arith, c.requires.fits.begins, c.requires.fits.used))) }

@@ -6,11 +6,11 @@ use Rattle.journal_steps.proofs.Plans.{fill_now, same_page}
 use Rattle.journal_steps.proofs.Ranges.{in_slot, most_few}
 use Rattle.journal_steps.proofs.Journal.write_page.Goals as goal
 
-pub overflow-add-result-2 : goal.overflow-add-result-2
-overflow-add-result-2 c = omega (arith, c.slot.ensures.few, most_few (chip_limits c.args.limits.now) c.requires.0, c.requires.1)
+pub overflow_add-result-2 : goal.overflow_add-result-2
+overflow_add-result-2 c = omega (arith, c.slot.ensures.few, most_few (chip_limits c.args.limits.now) c.requires.0, c.requires.1)
 
-pub overflow-add-result-3 : goal.overflow-add-result-3
-overflow-add-result-3 c = omega (arith, most_few (chip_limits c.args.limits.now) c.requires.0, c.requires.1)
+pub overflow_add-result-3 : goal.overflow_add-result-3
+overflow_add-result-3 c = omega (arith, most_few (chip_limits c.args.limits.now) c.requires.0, c.requires.1)
 
 pub returns : goal.returns
 returns c = record {

@@ -10,5 +10,5 @@ fine : (a b : ℕ) (g : Leg) → a < 65536 → b < 65536 → g ≡ leg_of a b 10
 unfolding falling all_to
 fine a b g p q e = subst (λ (l : Leg). FineLeg l) (sym e) (record { from = p; to = q; leaves = omega arith; arrives = omega arith; some = omega arith; classes = omega arith; falling = refl; small = refl })
 
-pub push-leg-requires : goal.push-leg-requires
-push-leg-requires c = record { sound = c.requires; space = search rules; fine = fine c.args.from c.args.to c.new.result (search rules) (search rules) c.new.ensures }
+pub push_leg-requires : goal.push_leg-requires
+push_leg-requires c = record { sound = c.requires; space = search rules; fine = fine c.args.from c.args.to c.new.result (search rules) (search rules) c.new.ensures }

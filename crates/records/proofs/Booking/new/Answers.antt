@@ -10,6 +10,6 @@ returns c = λ d. record {
   stands = 0;
   until = 0;
   count = length c.args.legs.now;
-  legs = front 8 (replicate 8 0) c.args.legs.now c.copy-from-slice.new.self refl c.copy-from-slice.ensures.after d;
+  legs = front 8 (replicate 8 0) c.args.legs.now c.copy_from_slice.new.self refl c.copy_from_slice.ensures.after d;
   paid = 0;
 }

@@ -10,5 +10,5 @@ returns c = λ d. record {
   leaves = c.args.leaves;
   arrives = c.args.arrives;
   classes = length c.args.limits.now;
-  limits = front 26 (replicate 26 0) c.args.limits.now c.copy-from-slice.new.self refl c.copy-from-slice.ensures.after d;
+  limits = front 26 (replicate 26 0) c.args.limits.now c.copy_from_slice.new.self refl c.copy_from_slice.ensures.after d;
 }

@@ -9,19 +9,19 @@ use Rattle.store.specs.Whole.{house}
 use Rattle.seating_tests.proofs.Bookings.{one_leg}
 use Rattle.seating_tests.proofs.tests.book.Goals as goal
 
-pub push-booking-requires : goal.push-booking-requires
-push-booking-requires c = record {
+pub push_booking-requires : goal.push_booking-requires
+push_booking-requires c = record {
   sound = c.requires.sound;
-  space = c.in-ok-may-book.ensures.space;
+  space = c.in_ok-may_book.ensures.space;
   fine =
       subst (λ (b : Booking). FineBooking (length (house c.args.m.now).legs) b) (sym c.new.ensures)
-      (one_leg (house c.args.m.now) c.args.m.now.limits.bookings c.args.class c.args.seats c.args.i c.in-ok-may-book.ensures);
+      (one_leg (house c.args.m.now) c.args.m.now.limits.bookings c.args.class c.args.seats c.args.i c.in_ok-may_book.ensures);
 }
 
-pub serve-newest-requires : goal.serve-newest-requires
-serve-newest-requires c = record {
-  sound = c.push-booking.ensures.sound;
+pub serve_newest-requires : goal.serve_newest-requires
+serve_newest-requires c = record {
+  sound = c.push_booking.ensures.sound;
   newest =
-      subst Newcomer (sym c.push-booking.ensures.house)
+      subst Newcomer (sym c.push_booking.ensures.house)
       (newcomer (house c.args.m.now) (booking_means c.new.result) c.requires.idle (ap (λ (b : Booking). b.stands) c.new.ensures));
 }

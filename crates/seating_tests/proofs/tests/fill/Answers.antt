@@ -18,11 +18,11 @@ third : FineLeg (leg_of 3 4 300 350 (1000 ∷ 1000 ∷ []))
 unfolding good_fields falling all_to
 third = new_leg_fine 3 4 300 350 (1000 ∷ 1000 ∷ []) refl
 
-pub add-leg-requires : goal.add-leg-requires
-add-leg-requires c = record { sound = c.requires; range = omega arith; fine = first }
+pub add_leg-requires : goal.add_leg-requires
+add_leg-requires c = record { sound = c.requires; range = omega arith; fine = first }
 
-pub add-leg-requires-2 : goal.add-leg-requires-2
-add-leg-requires-2 c = record { sound = c.add-leg.ensures; range = omega arith; fine = second }
+pub add_leg-requires-2 : goal.add_leg-requires-2
+add_leg-requires-2 c = record { sound = c.add_leg.ensures; range = omega arith; fine = second }
 
-pub add-leg-requires-3 : goal.add-leg-requires-3
-add-leg-requires-3 c = record { sound = c.add-leg-2.ensures; range = omega arith; fine = third }
+pub add_leg-requires-3 : goal.add_leg-requires-3
+add_leg-requires-3 c = record { sound = c.add_leg-2.ensures; range = omega arith; fine = third }

@@ -6,11 +6,11 @@ use Rattle.store.specs.Whole.{house}
 use Rattle.seating_tests.proofs.Bookings.{one_leg}
 use Rattle.seating_tests.proofs.tests.wait_for.Goals as goal
 
-pub push-booking-requires : goal.push-booking-requires
-push-booking-requires c = record {
+pub push_booking-requires : goal.push_booking-requires
+push_booking-requires c = record {
   sound = c.requires;
-  space = c.in-ok-may-book.ensures.space;
+  space = c.in_ok-may_book.ensures.space;
   fine =
       subst (λ (b : Booking). FineBooking (length (house c.args.m.now).legs) b) (sym c.new.ensures)
-      (one_leg (house c.args.m.now) c.args.m.now.limits.bookings c.args.class c.args.seats c.args.i c.in-ok-may-book.ensures);
+      (one_leg (house c.args.m.now) c.args.m.now.limits.bookings c.args.class c.args.seats c.args.i c.in_ok-may_book.ensures);
 }

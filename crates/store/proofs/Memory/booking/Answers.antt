@@ -8,8 +8,8 @@ use Rattle.store.specs.Whole.{Words, words}
 use Rattle.store.proofs.Lists.{length_legs, length_bookings, at_bookings, journey_full}
 use Rattle.store.proofs.Memory.booking.Goals as goal
 
-pub load-booking-requires : goal.load-booking-requires
-load-booking-requires c =
+pub load_booking-requires : goal.load_booking-requires
+load_booking-requires c =
     let w : Words = words c.args.self.now in
     let h : c.args.k < w.booked = omega (arith, c.requires.there, length_bookings w.bookings w.sums w.booked) in
     record { words = omega (arith, c.requires.sound.booked, c.requires.sound.bookings_fit); sum = omega (arith, c.requires.sound.booked, c.requires.sound.sums_fit) }
@@ -19,8 +19,8 @@ returns c =
     let w : Words = words c.args.self.now in
     let h : c.args.k < w.booked = omega (arith, c.requires.there, length_bookings w.bookings w.sums w.booked) in
     record {
-      means = ap booking_means c.load-booking.ensures ∙ sym (at_bookings w.bookings w.sums w.booked c.args.k none h);
-      fine = subst (λ (n : ℕ). FineBooking n c.load-booking.result) (sym (length_legs w.legs w.opened))
-          (subst (λ (b : Booking). FineBooking w.opened b) (sym c.load-booking.ensures) (c.requires.sound.bookings c.args.k h));
-      whole = ap (λ (b : Booking). length b.legs) c.load-booking.ensures ∙ journey_full w.bookings w.sums c.args.k (omega (arith, c.requires.sound.booked, c.requires.sound.bookings_fit));
+      means = ap booking_means c.load_booking.ensures ∙ sym (at_bookings w.bookings w.sums w.booked c.args.k none h);
+      fine = subst (λ (n : ℕ). FineBooking n c.load_booking.result) (sym (length_legs w.legs w.opened))
+          (subst (λ (b : Booking). FineBooking w.opened b) (sym c.load_booking.ensures) (c.requires.sound.bookings c.args.k h));
+      whole = ap (λ (b : Booking). length b.legs) c.load_booking.ensures ∙ journey_full w.bookings w.sums c.args.k (omega (arith, c.requires.sound.booked, c.requires.sound.bookings_fit));
     }

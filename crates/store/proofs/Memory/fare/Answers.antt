@@ -6,14 +6,14 @@ use Rattle.store.specs.Whole.{Words, words}
 use Rattle.store.proofs.Lists.{length_fares, at_fares}
 use Rattle.store.proofs.Memory.fare.Goals as goal
 
-pub load-fare-requires : goal.load-fare-requires
-load-fare-requires c = let w : Words = words c.args.self.now in omega (arith, c.requires.there, length_fares w.fares w.filed, c.requires.sound.filed, c.requires.sound.fares_fit)
+pub load_fare-requires : goal.load_fare-requires
+load_fare-requires c = let w : Words = words c.args.self.now in omega (arith, c.requires.there, length_fares w.fares w.filed, c.requires.sound.filed, c.requires.sound.fares_fit)
 
 pub returns : goal.returns
 returns c =
     let w : Words = words c.args.self.now in
     let h : c.args.k < w.filed = omega (arith, c.requires.there, length_fares w.fares w.filed) in
     record {
-      means = λ d. ap fare_means c.load-fare.ensures ∙ sym (at_fares w.fares w.filed c.args.k d h);
-      fine = subst FineFare (sym c.load-fare.ensures) (c.requires.sound.fares c.args.k h);
+      means = λ d. ap fare_means c.load_fare.ensures ∙ sym (at_fares w.fares w.filed c.args.k d h);
+      fine = subst FineFare (sym c.load_fare.ensures) (c.requires.sound.fares c.args.k h);
     }

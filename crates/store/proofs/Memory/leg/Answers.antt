@@ -10,19 +10,19 @@ use Rattle.store.specs.Whole.{Words, words, legs_of}
 use Rattle.store.proofs.Lists.{length_legs, at_legs, limits_full}
 use Rattle.store.proofs.Memory.leg.Goals as goal
 
-pub load-leg-requires : goal.load-leg-requires
-load-leg-requires c = let w : Words = words c.args.self.now in omega (arith, c.requires.there, length_legs w.legs w.opened, c.requires.sound.opened, c.requires.sound.legs_fit)
+pub load_leg-requires : goal.load_leg-requires
+load_leg-requires c = let w : Words = words c.args.self.now in omega (arith, c.requires.there, length_legs w.legs w.opened, c.requires.sound.opened, c.requires.sound.legs_fit)
 
 pub returns : goal.returns
 returns c =
     let w : Words = words c.args.self.now in
     let h : c.args.i < w.opened = omega (arith, c.requires.there, length_legs w.legs w.opened) in
-    let e : leg_means c.load-leg.result ≡ leg (legs_of w.legs w.opened) c.args.i = ap leg_means c.load-leg.ensures ∙ sym (at_legs w.legs w.opened c.args.i no_leg h) in
-    let f : FineLeg c.load-leg.result = subst FineLeg (sym c.load-leg.ensures) (c.requires.sound.legs c.args.i h) in
-    let n : length c.load-leg.result.limits ≡ 26 = ap (λ (g : Leg). length g.limits) c.load-leg.ensures ∙ limits_full w.legs c.args.i (omega (arith, c.requires.sound.opened, c.requires.sound.legs_fit)) in
+    let e : leg_means c.load_leg.result ≡ leg (legs_of w.legs w.opened) c.args.i = ap leg_means c.load_leg.ensures ∙ sym (at_legs w.legs w.opened c.args.i no_leg h) in
+    let f : FineLeg c.load_leg.result = subst FineLeg (sym c.load_leg.ensures) (c.requires.sound.legs c.args.i h) in
+    let n : length c.load_leg.result.limits ≡ 26 = ap (λ (g : Leg). length g.limits) c.load_leg.ensures ∙ limits_full w.legs c.args.i (omega (arith, c.requires.sound.opened, c.requires.sound.legs_fit)) in
     record {
       means = e;
-      classes = sym (ap (λ (g : lines.Leg). length g.limits) (sym e) ∙ length-take-le c.load-leg.result.classes c.load-leg.result.limits (omega (arith, f.classes)));
+      classes = sym (ap (λ (g : lines.Leg). length g.limits) (sym e) ∙ length-take-le c.load_leg.result.classes c.load_leg.result.limits (omega (arith, f.classes)));
       fine = f;
       whole = n;
     }

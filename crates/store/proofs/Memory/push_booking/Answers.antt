@@ -13,8 +13,8 @@ recount-requires c =
     let f : FineBooking w.opened c.args.b.now = subst (λ (n : ℕ). FineBooking n c.args.b.now) (length_legs w.legs w.opened) c.requires.fine in
     record { ready = kept.ready w c.requires.sound c.args.b.now f; few = λ q. kept.can_take w c.requires.sound c.args.b.now f; taken = λ q. let z : ◌≡◌ {A = ℕ} 0 1 = cc in absurd (omega arith) }
 
-pub store-booking-requires : goal.store-booking-requires
-store-booking-requires c = let w : Words = words c.args.self.now in omega (arith, c.requires.space, length_bookings w.bookings w.sums w.booked, c.requires.sound.bookings_fit)
+pub store_booking-requires : goal.store_booking-requires
+store_booking-requires c = let w : Words = words c.args.self.now in omega (arith, c.requires.space, length_bookings w.bookings w.sums w.booked, c.requires.sound.bookings_fit)
 
 pub bounds-self-k : goal.bounds-self-k
 bounds-self-k c = let w : Words = words c.args.self.now in omega (arith, c.requires.space, length_bookings w.bookings w.sums w.booked, c.requires.sound.sums_fit)
@@ -28,12 +28,12 @@ returns c =
     let paid : ℕ = c.args.b.now.paid in
     let sums : List ℕ = set w.sums w.booked paid in
     let ll : length c.recount.new.legs ≡ length w.legs = search rules in
-    let lb : length c.store-booking.new.bookings ≡ length w.bookings = search rules in
+    let lb : length c.store_booking.new.bookings ≡ length w.bookings = search rules in
     let ls : length sums ≡ length w.sums = length-set w.sums w.booked paid in
-    let e = c.store-booking.ensures in
-    let this = summed w.bookings c.store-booking.new.bookings w.sums w.booked paid c.args.b.now n e.this in
-    let rest = unsummed w.bookings c.store-booking.new.bookings w.sums w.booked paid e.others in
-    let kept-both = kept.more_kept w c.requires.sound c.args.b.now c.recount.new.legs c.store-booking.new.bookings sums f c.is-counted-is.result c.is-counted-is.ensures c.recount.ensures this rest ll lb ls m in
+    let e = c.store_booking.ensures in
+    let this = summed w.bookings c.store_booking.new.bookings w.sums w.booked paid c.args.b.now n e.this in
+    let rest = unsummed w.bookings c.store_booking.new.bookings w.sums w.booked paid e.others in
+    let kept-both = kept.more_kept w c.requires.sound c.args.b.now c.recount.new.legs c.store_booking.new.bookings sums f c.is_counted-is.result c.is_counted-is.ensures c.recount.ensures this rest ll lb ls m in
     record {
       house = kept-both.0;
       sound = kept-both.1;

@@ -13,8 +13,8 @@ use Rattle.store.proofs.Kept as kept
 use Rattle.store.proofs.Lists.{length_legs}
 use Rattle.store.proofs.Memory.set_limits.Goals as goal
 
-pub store-leg-requires : goal.store-leg-requires
-store-leg-requires c = let w : Words = words c.args.self.now in omega (arith, c.requires.there, length_legs w.legs w.opened, c.requires.sound.opened, c.requires.sound.legs_fit)
+pub store_leg-requires : goal.store_leg-requires
+store_leg-requires c = let w : Words = words c.args.self.now in omega (arith, c.requires.there, length_legs w.legs w.opened, c.requires.sound.opened, c.requires.sound.legs_fit)
 
 -- the leg that is stored: its limits are those that were given, and all else is as it was loaded
 module _ (g : Leg) (xs ys : List ℕ) (n : ℕ) (e : ys ≡ xs) (k : g.classes ≡ length xs) where
@@ -44,16 +44,16 @@ returns c =
     let w : Words = words c.args.self.now in
     let g : Leg = c.leg-g.result in
     let xs : List ℕ = c.args.limits.now in
-    let ys : List ℕ = c.copy-from-slice.new.self in
+    let ys : List ℕ = c.copy_from_slice.new.self in
     let n : ℕ = length xs - 0 in
-    let e : ys ≡ xs = c.copy-from-slice.ensures.after in
+    let e : ys ≡ xs = c.copy_from_slice.ensures.after in
     let k : g.classes ≡ length xs = c.leg-g.ensures.classes ∙ sym c.requires.classes in
     let h : c.args.i < w.opened = omega (arith, c.requires.there, length_legs w.legs w.opened) in
-    let l : length c.store-leg.new.legs ≡ length w.legs = search rules in
-    let a = c.store-leg.ensures in
+    let l : length c.store_leg.new.legs ≡ length w.legs = search rules in
+    let a = c.store_leg.ensures in
     let f = other_fine g xs ys n e k c.leg-g.ensures.fine c.requires.falling c.requires.small in
-    let co : (j x : ℕ) → x < 26 → count_in c.store-leg.new.legs j x ≡ count_in w.legs j x = λ j x m. a.beside j x (omega arith) in
-    let kept-both = kept.limited_kept w c.requires.sound c.args.i h (other g xs ys n e k) c.store-leg.new.legs f a.this a.others co l xs (other_means g xs ys n e k _ c.leg-g.ensures.means) in
+    let co : (j x : ℕ) → x < 26 → count_in c.store_leg.new.legs j x ≡ count_in w.legs j x = λ j x m. a.beside j x (omega arith) in
+    let kept-both = kept.limited_kept w c.requires.sound c.args.i h (other g xs ys n e k) c.store_leg.new.legs f a.this a.others co l xs (other_means g xs ys n e k _ c.leg-g.ensures.means) in
     record {
       house = kept-both.0;
       sound = kept-both.1;

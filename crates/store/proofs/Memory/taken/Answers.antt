@@ -5,8 +5,8 @@ use Rattle.store.proofs.Kept.{few_taken}
 use Rattle.store.proofs.Lists.{length_legs}
 use Rattle.store.proofs.Memory.taken.Goals as goal
 
-pub load-count-requires : goal.load-count-requires
-load-count-requires c =
+pub load_count-requires : goal.load_count-requires
+load_count-requires c =
     let w : Words = words c.args.self.now in
     record { leg = omega (arith, c.requires.there, length_legs w.legs w.opened, c.requires.sound.opened, c.requires.sound.legs_fit); class = c.requires.class }
 
@@ -15,6 +15,6 @@ returns c =
     let w : Words = words c.args.self.now in
     let h : c.args.i < w.opened = omega (arith, c.requires.there, length_legs w.legs w.opened) in
     record {
-      is = c.load-count.ensures ∙ c.requires.sound.counts c.args.i c.args.class h c.requires.class;
-      few = subst (λ (n : ℕ). n ≤ 9000000) (sym c.load-count.ensures) (few_taken w c.requires.sound c.args.i c.args.class h c.requires.class);
+      is = c.load_count.ensures ∙ c.requires.sound.counts c.args.i c.args.class h c.requires.class;
+      few = subst (λ (n : ℕ). n ≤ 9000000) (sym c.load_count.ensures) (few_taken w c.requires.sound c.args.i c.args.class h c.requires.class);
     }

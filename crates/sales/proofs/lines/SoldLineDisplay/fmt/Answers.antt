@@ -10,10 +10,10 @@ pub returns-clause-writes : goal.returns-clause-writes
 returns-clause-writes g c plain e =
     let t = g.W.Write.write_str_gives in
     let x = c.args.self.now in
-    let p = c.in-ok-write.ensures.shows plain refl in
-    let q = c.in-ok-write-spaced.ensures p.plain refl in
-    let r = c.in-ok-write-2.ensures.shows q.plain refl in
-    let s = c.write-spaced-2.ensures r.plain e in
+    let p = c.in_ok-write.ensures.shows plain refl in
+    let q = c.in_ok-write_spaced.ensures p.plain refl in
+    let r = c.in_ok-write-2.ensures.shows q.plain refl in
+    let s = c.write_spaced-2.ensures r.plain e in
     has_written_of_eq t _ _ _ _
     (ap₂ (λ xs ys. leg_front x.number x.from x.to x.leaves x.arrives ++ (spaced xs ++ (codes " of" ++ spaced ys))) (own_values x.sold.now) (own_values x.limits.now))
     (has_written_append t _ _ _ _ _ p (has_written_append t _ _ _ _ _ q (has_written_append t _ _ _ _ _ r s)))
