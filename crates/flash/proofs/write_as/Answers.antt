@@ -21,6 +21,6 @@ returns-else-how-eq-DONE c =
     let how = c.args.how in
     let spoils : left_of how (chip_in w k) (written_on (chip_in w k) bs) ≡ spoilt = elim c.else-how-eq-DONE.branch [
       | else-how-eq-DONE-via-then-how-eq-DONE+else-is_blank v ↦ left_done how (chip_in w k) _ v.if-how-eq-DONE.true ∙ not_blank w bs k c.requires.0 v.if-is_blank.false
-      | else-how-eq-DONE-via-else-how-eq-DONE v ↦ left_spoilt how (chip_in w k) _ c.if-how-eq-AS-BEFORE.false v.if-how-eq-DONE.false
+      | else-how-eq-DONE-via-else-how-eq-DONE v ↦ left_spoilt how (chip_in w k) _ c.if-how-eq-AS_BEFORE.false v.if-how-eq-DONE.false
     ] in
     put_left (λ p. written_on p bs) k how (2 ∷ replicate 512 0) w _ c.put_page-else-how-eq-DONE.ensures spoils

@@ -3,8 +3,8 @@ use Rattle.std.proofs.Common.{◌∙◌, arith}
 use Rattle.journal_load.proofs.Says.{no_call}
 use Rattle.journal_load.proofs.call_in.Goals as goal
 
-pub returns-then-word-ne-CALL-PAGE : goal.returns-then-word-ne-CALL-PAGE
-returns-then-word-ne-CALL-PAGE c = λ x f e. c.if-word-ne-CALL-PAGE.true (c.word.ensures ∙ (no_call c.args.page.now x f e).0)
+pub returns-then-word-ne-CALL_PAGE : goal.returns-then-word-ne-CALL_PAGE
+returns-then-word-ne-CALL_PAGE c = λ x f e. c.if-word-ne-CALL_PAGE.true (c.word.ensures ∙ (no_call c.args.page.now x f e).0)
 
-pub returns-then-count-gt-MOST-OF-CALL : goal.returns-then-count-gt-MOST-OF-CALL
-returns-then-count-gt-MOST-OF-CALL c = λ x f e. omega (arith, c.word-count.ensures, (no_call c.args.page.now x f e).1)
+pub returns-then-count-gt-MOST_OF_CALL : goal.returns-then-count-gt-MOST_OF_CALL
+returns-then-count-gt-MOST_OF_CALL c = λ x f e. omega (arith, c.word-count.ensures, (no_call c.args.page.now x f e).1)

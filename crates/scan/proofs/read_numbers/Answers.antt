@@ -8,7 +8,7 @@ use Rattle.scan.proofs.read_numbers.Goals as goal
 
 pub returns-in_err-next : goal.returns-in_err-next
 returns-in_err-next c =
-    let p = err_from_is_err_and c.from-residual.result c.from-residual.ensures.1 in
+    let p = err_from_is_err_and c.from_residual.result c.from_residual.ensures.1 in
     let e = numbers_unfit c.min-most.result c.loop-i.i _ (take c.loop-i.i c.loop-i.values) c.loop-i.rest.now c.loop-i-test.true (sym c.in_err-next.ensures) in
     rw (p.1, p.2) (sym e ∙ sym c.loop-i.invariant.1 ∙ ap (λ n. numbers_in n c.args.line.now) c.min-most.ensures)
 

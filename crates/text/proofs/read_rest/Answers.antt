@@ -14,7 +14,7 @@ returns-in-Err c =
 pub returns-in_err-list : goal.returns-in_err-list
 returns-in_err-list c =
     let n : min c.in-Some.count 5 ≡ field_count c.args.number = ap (λ k. min k 5) c.in-Some.ensures.1 ∙ five_at_most c.args.number c.requires in
-    let p = err_from_is_err_and c.from-residual.result c.from-residual.ensures.1 in
+    let p = err_from_is_err_and c.from_residual.result c.from_residual.ensures.1 in
     rw (p.1, p.2) (list_stop c.args.number c.args.line.now _ c.in-Ok.fields.rest.now _ (sym (rw n at c.in-Ok.ensures)) c.in_err-list.ensures)
 
 pub returns : goal.returns

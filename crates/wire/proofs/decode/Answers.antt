@@ -63,5 +63,5 @@ returns c =
     let call : call_of c.in-Some-new.call (numbers_in bytes) ≡ made k c.read_fields.result (numbers_in bytes) = c.in-Some-new.ensures.1 (numbers_in bytes) in
     let means : call_of c.in-Some-new.call (numbers_in (take (length c.args.bytes.now - c.list_place.result) (drop c.list_place.result c.args.bytes.now))) ≡ decoded c.args.bytes.now =
     ap (λ w. call_of c.in-Some-new.call (numbers_in w)) part ∙ (call ∙ (same ∙ whole)) in
-    let fits = calls_fit c.args.bytes.now (bytes_from c.args.bytes.now (λ i. (c.type-inv.bytes i).fits)) (subst (λ x. call_number x ≤ 10) means (is_call c.in-Some-new.call _)) in
+    let fits = calls_fit c.args.bytes.now (bytes_from c.args.bytes.now (λ i. (c.type_inv.bytes i).fits)) (subst (λ x. call_number x ≤ 10) means (is_call c.in-Some-new.call _)) in
     record { means = means; part = part; fits = subst CanBeWritten (sym means) fits }

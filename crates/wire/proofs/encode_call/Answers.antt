@@ -23,8 +23,8 @@ returns-then-not-takes_list c =
       c.put_head.ensures ∙ (ap (λ x. over 0 x c.args.out.now) (head_row c.parts-number.result.0 c.in-Some.count c.parts-number.result.1 ∙ sym p.row) ∙ over_front _ _),
     )
 
-pub returns-then-list-gt-LONGEST-LIST : goal.returns-then-list-gt-LONGEST-LIST
-returns-then-list-gt-LONGEST-LIST c =
+pub returns-then-list-gt-LONGEST_LIST : goal.returns-then-list-gt-LONGEST_LIST
+returns-then-list-gt-LONGEST_LIST c =
     let p = listed c.args.call _ _ _ c.args.list.now c.parts-number.ensures c.in-Some.ensures.1 c.if-not-takes_list.ensures in
     (inl (omega (arith, ap length p.listed)), refl)
 

@@ -6,9 +6,9 @@ use Rattle.wire_answers.specs.Answers.{AnswerWritten, answer_bytes, listed}
 use Rattle.wire_answers.proofs.Lengths.{written_so, written_list}
 use Rattle.wire_answers.proofs.encode_answer.Goals as goal
 
-pub returns-then-list-gt-MOST-CLASSES : goal.returns-then-list-gt-MOST-CLASSES
+pub returns-then-list-gt-MOST_CLASSES : goal.returns-then-list-gt-MOST_CLASSES
 unfolding listed
-returns-then-list-gt-MOST-CLASSES c =
+returns-then-list-gt-MOST_CLASSES c =
     subst (λ a. AnswerWritten (answer_of a c.args.list.now) c.args.out.now c.args.out.now None) (sym c.in-Sold.is) (omega arith, refl)
 
 pub returns-in-Refused : goal.returns-in-Refused
@@ -35,8 +35,8 @@ returns-in-Stands c =
     subst (λ a. AnswerWritten (answer_of a c.args.list.now) c.args.out.now c.put_case-in-Stands.new.out (Some c.put_case-in-Stands.result)) (sym c.in-Stands.is)
     (written_so (stands_so c.in-Stands.stands c.in-Stands.until c.in-Stands.paid) _ 3 (c.in-Stands.stands ∷ (c.in-Stands.until ∷ (c.in-Stands.paid ∷ []))) _ _ _ refl refl c.put_case-in-Stands.ensures.length c.put_case-in-Stands.ensures.after (omega arith))
 
-pub returns-else-list-gt-MOST-CLASSES : goal.returns-else-list-gt-MOST-CLASSES
+pub returns-else-list-gt-MOST_CLASSES : goal.returns-else-list-gt-MOST_CLASSES
 unfolding answer_bytes listed
-returns-else-list-gt-MOST-CLASSES c =
+returns-else-list-gt-MOST_CLASSES c =
     subst (λ a. AnswerWritten (answer_of a c.args.list.now) c.args.out.now c.put_sold.new.out (Some c.put_sold.result)) (sym c.in-Sold.is)
     (written_list c.args.list.now c.args.out.now _ _ (omega arith) c.put_sold.ensures.length c.put_sold.ensures.after)
