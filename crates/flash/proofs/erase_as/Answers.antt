@@ -13,7 +13,7 @@ returns c =
     let how = c.args.how in
     let state = c.if-how-eq-DONE.state in
     let leaves : left_of how (chip_in w k) blank ≡ page_in (state ∷ replicate 512 0) = elim c.if-how-eq-DONE.branch [
-      | then-how-eq-DONE v ↦ left_done how (chip_in w k) blank v.if-how-eq-DONE.true ∙ ap (λ s. page_in (s ∷ replicate 512 0)) (sym v.state_is)
-      | else-how-eq-DONE v ↦ left_spoilt how (chip_in w k) blank c.if-how-eq-AS_BEFORE.false v.if-how-eq-DONE.false ∙ ap (λ s. page_in (s ∷ replicate 512 0)) (sym v.state_is)
+      | then-how-eq-DONE v ↦ left_done how (chip_in w k) blank v.if-how-eq-DONE.true ∙ ap (λ s. page_in (s ∷ replicate 512 0)) (sym v.state-is)
+      | else-how-eq-DONE v ↦ left_spoilt how (chip_in w k) blank c.if-how-eq-AS_BEFORE.false v.if-how-eq-DONE.false ∙ ap (λ s. page_in (s ∷ replicate 512 0)) (sym v.state-is)
     ] in
     put_left (λ p. blank) k how (state ∷ replicate 512 0) w _ c.put_page.ensures leaves
