@@ -71,7 +71,7 @@ push_leg-requires c =
     let ls = numbers_in c.args.part.now in
     let good = opens_range c.args.from c.args.to c.args.leaves c.args.arrives ls ∙ and_from _ _ (sym c.if-not-leg_in_range.ensures) c.in-Some.ensures.good in
     let row : take (c.in-Some.row.count - 0) c.in-Some.row.limits ≡ ls = ap (λ k. take k c.in-Some.row.limits) (omega arith) ∙ c.in-Some.ensures.limits in
-    let new = c.new_leg.ensures ∙ ap (leg_of c.args.from c.args.to c.args.leaves c.args.arrives) row in
+    let new = c.new-leg.ensures ∙ ap (leg_of c.args.from c.args.to c.args.leaves c.args.arrives) row in
     record {
       sound = c.requires;
       space = omega (arith, c.in-Some-next_number.ensures.1, c.leg_count.ensures, ap (λ (l : Limits). l.legs) c.limits.ensures);
@@ -88,7 +88,7 @@ returns c =
     let free : ltb (length h.legs) c.args.m.now.limits.legs ≡ true = lt-ltb _ _ (omega (arith, c.in-Some-next_number.ensures.1, c.leg_count.ensures, ap (λ (l : Limits). l.legs) c.limits.ensures)) in
     let n : c.in-Some-next_number.number ≡ length h.legs = omega (arith, c.in-Some-next_number.ensures.0, c.leg_count.ensures) in
     let row : take (c.in-Some.row.count - 0) c.in-Some.row.limits ≡ ls = ap (λ k. take k c.in-Some.row.limits) (omega arith) ∙ c.in-Some.ensures.limits in
-    let new = c.new_leg.ensures ∙ ap (leg_of c.args.from c.args.to c.args.leaves c.args.arrives) row in
+    let new = c.new-leg.ensures ∙ ap (leg_of c.args.from c.args.to c.args.leaves c.args.arrives) row in
     let means = ap leg_means new ∙ leg_of_means c.args.from c.args.to c.args.leaves c.args.arrives ls in
     record {
       meant = takes c.args.m.now.limits h (opens c.args.from c.args.to c.args.leaves c.args.arrives ls) _ _ good

@@ -83,28 +83,28 @@ returns-in-Leg c =
 
 pub returns-in-Pay : goal.returns-in-Pay
 returns-in-Pay c = record {
-  done = as_call c.args.m.now c.args.m.now _ [] (numbers_in c.args.part.now) c.args.call _ c.in-Pay.is (pays_later c.args.m.now c.requires.reached c.requires.sound c.in-Pay.-booking);
+  done = as_call c.args.m.now c.args.m.now _ [] (numbers_in c.args.part.now) c.args.call _ c.in-Pay.is (pays_later c.args.m.now c.requires.reached c.requires.sound c.in-Pay._booking);
   listed = omega arith;
   behind = refl;
 }
 
 pub returns-in-Cancel : goal.returns-in-Cancel
 returns-in-Cancel c = record {
-  done = as_call c.args.m.now c.args.m.now _ [] (numbers_in c.args.part.now) c.args.call _ c.in-Cancel.is (cancels_later c.args.m.now c.requires.reached c.requires.sound c.in-Cancel.-booking);
+  done = as_call c.args.m.now c.args.m.now _ [] (numbers_in c.args.part.now) c.args.call _ c.in-Cancel.is (cancels_later c.args.m.now c.requires.reached c.requires.sound c.in-Cancel._booking);
   listed = omega arith;
   behind = refl;
 }
 
 pub returns-in-Limits : goal.returns-in-Limits
 returns-in-Limits c = record {
-  done = as_call c.args.m.now c.args.m.now _ [] (numbers_in c.args.part.now) c.args.call _ c.in-Limits.is (limits_later c.args.m.now c.requires.reached c.requires.sound c.in-Limits.-leg (numbers_in c.args.part.now));
+  done = as_call c.args.m.now c.args.m.now _ [] (numbers_in c.args.part.now) c.args.call _ c.in-Limits.is (limits_later c.args.m.now c.requires.reached c.requires.sound c.in-Limits._leg (numbers_in c.args.part.now));
   listed = omega arith;
   behind = refl;
 }
 
 pub returns-in-Ticks : goal.returns-in-Ticks
 returns-in-Ticks c = record {
-  done = as_call c.args.m.now c.args.m.now _ [] (numbers_in c.args.part.now) c.args.call _ c.in-Ticks.is (ticks_later c.args.m.now c.requires.reached c.requires.sound c.in-Ticks.-count);
+  done = as_call c.args.m.now c.args.m.now _ [] (numbers_in c.args.part.now) c.args.call _ c.in-Ticks.is (ticks_later c.args.m.now c.requires.reached c.requires.sound c.in-Ticks._count);
   listed = omega arith;
   behind = refl;
 }

@@ -8,6 +8,6 @@ use Rattle.text.proofs.answers.write_row.Goals as goal
 
 pub returns : goal.returns
 returns g c plain e =
-    let p = c.in_ok-write.ensures.shows plain refl in
+    let p = c.in_ok-write.ensures.writes plain refl in
     let q = c.write_spaced.ensures p.plain e in
     has_written_of_eq g.W.Write.write_str_gives _ _ _ _ (ap (λ ns. decimal c.in-Some.first.now ++ spaced ns) (own_values c.in-Some.rest.now) ∙ sym (ap in_a_row c.in-Some.ensures.cases.0)) (has_written_append g.W.Write.write_str_gives _ _ _ _ _ p q)

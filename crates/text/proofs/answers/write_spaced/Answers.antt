@@ -14,7 +14,7 @@ pub loop-number-preserved : goal.loop-number-preserved
 loop-number-preserved g c plain =
     let ns = map g.N.Figure.value c.args.numbers.now in
     let p = c.loop-number.invariant plain in
-    let q = c.in_ok-write.ensures.shows p.plain refl in
+    let q = c.in_ok-write.ensures.writes p.plain refl in
     let here : c.figure-n.result ≡ get_or ns c.loop-number.number-index 0 =
     c.figure-n.ensures ∙ ap g.N.Figure.value c.number-item.is
     ∙ sym (get_or-map g.N.Figure.value c.args.numbers.now c.loop-number.number-index c.number-item.result 0 c.loop-number-test.true) in

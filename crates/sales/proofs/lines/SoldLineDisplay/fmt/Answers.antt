@@ -10,9 +10,9 @@ pub returns-clause-writes : goal.returns-clause-writes
 returns-clause-writes g c plain e =
     let t = g.W.Write.write_str_gives in
     let x = c.args.self.now in
-    let p = c.in_ok-write.ensures.shows plain refl in
+    let p = c.in_ok-write.ensures.writes plain refl in
     let q = c.in_ok-write_spaced.ensures p.plain refl in
-    let r = c.in_ok-write-2.ensures.shows q.plain refl in
+    let r = c.in_ok-write-2.ensures.writes q.plain refl in
     let s = c.write_spaced-2.ensures r.plain e in
     has_written_of_eq t _ _ _ _
     (ap₂ (λ xs ys. leg_front x.number x.from x.to x.leaves x.arrives ++ (spaced xs ++ (codes " of" ++ spaced ys))) (own_values x.sold.now) (own_values x.limits.now))
