@@ -20,14 +20,11 @@ use opening::open_house;
 use protocol::Answer;
 use questions::Reply;
 use scan::read_line;
+use std::process::ExitCode;
 use std::{env, fs, io};
 use store::{Memory, open};
 use text::answers::AnswerLine;
 use text::houses::HouseLine;
-
-// The program ends with status 1.
-#[derive(Clone, Copy)]
-struct Failed;
 
 // Prints an answer, unless it is the act in which power fails. Gives whether power held.
 fn say(rt: &HostRuntime, power: &mut Power, answer: Answer, list: &[u64]) -> io::Result<bool> {
@@ -176,12 +173,12 @@ fn words(rt: &HostRuntime) -> io::Result<Vec<String>> {
     Ok(words)
 }
 
-fn main(rt: HostRuntime) -> Result<(), Failed> {
+fn main(rt: HostRuntime) -> ExitCode {
     let Ok(words) = words(&rt) else {
-        return Err(Failed);
+        return ExitCode::FAILURE;
     };
     match run(&rt, words.as_slice()) {
-        Ok(true) => Ok(()),
-        Ok(false) | Err(_) => Err(Failed),
+        Ok(true) => ExitCode::SUCCESS,
+        Ok(false) | Err(_) => ExitCode::FAILURE,
     }
 }
