@@ -1,5 +1,5 @@
 -- A line that is read as a call can be written as bytes, and they are that call.
-use Rattle.std.proofs.Common.{◌≡◌, ℕ, ◌<◌, ◌≤◌, List, [], length, take, drop, Some, None, Err, Result, sym, refl, ap, ◌∙◌, subst, ⊎_elim, arith, lit≤}
+use Rattle.std.proofs.Common.{◌≡◌, ℕ, ◌≤◌, List, [], length, take, drop, Some, None, Err, Result, sym, refl, ap, ◌∙◌, subst, ⊎_elim, arith, lit≤}
 use Rattle.std.proofs.lemmas.List.{take_at}
 use Rattle.std.specs.declared.alloc.AllocError.{AllocError}
 use Rattle.calls.proofs.Performed.{not_read}

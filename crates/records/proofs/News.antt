@@ -1,8 +1,6 @@
 -- What a new leg and a new booking mean: just what they are made of.
 use Rattle.std.proofs.Common.{◌≡◌, ℕ, ◌-◌, List, length, take, replicate, refl}
 use Rattle.std.proofs.lemmas.List.{take_at}
-use Rattle.meaning.specs.Lines as lines
-use Rattle.meaning.specs.House as houses
 use Rattle.records.specs.Means.{leg_means, booking_means}
 use Rattle.records.specs.Words.{padded, leg_of, booking_of}
 

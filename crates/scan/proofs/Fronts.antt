@@ -4,7 +4,6 @@ use Rattle.std.proofs.lemmas.List.{at_drop_more, at_drop_all}
 use Rattle.std.proofs.lemmas.Bool.{cases_lt}
 use Rattle.scan.specs.Words.{is_kind, front, value_on}
 use Rattle.scan.specs.declared.Kind.{Kind}
-use Rattle.scan.specs.declared.Kind.TheVariants as kind
 
 pub front_more : (k : Kind) (xs : List ℕ) (i : ℕ) → i < length xs → is_kind k (get_or xs i 0) ≡ true → front k (drop i xs) ≡ suc (front k (drop (i + 1) xs))
 unfolding front

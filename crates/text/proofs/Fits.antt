@@ -1,12 +1,12 @@
 -- A line that is read as a call is one that can be written in its fields: every number is below 2^32, and its list has at most 255 of them.
-use Rattle.std.proofs.Common.{◌≡◌, ℕ, zero, suc, ◌≤◌, Bool, true, false, eqb, ltb, leb, List, [], ◌∷◌, length, take, drop, sym, refl, ap, ◌∙◌, arith, lit≤}
+use Rattle.std.proofs.Common.{◌≡◌, ℕ, zero, suc, ◌≤◌, Bool, true, false, eqb, ltb, leb, List, [], ◌∷◌, length, take, drop, refl, arith, lit≤}
 use Rattle.std.proofs.lemmas.Bool.{and_from, lt-ltb, leb-false, ltb-true}
 use Rattle.std.specs.Str.{bytes_eq}
 use Rattle.meaning.specs.Lines.{pick}
-use Rattle.meaning.specs.Calls.{Call, garbled, call_number}
+use Rattle.meaning.specs.Calls.{Call, call_number}
 use Rattle.meaning.specs.Promise.{field, all_fields, short, readable}
 use Rattle.protocol.proofs.Fields.{readable_made}
-use Rattle.protocol.specs.Forms.{field_count, has_list, made}
+use Rattle.protocol.specs.Forms.{field_count, has_list}
 use Rattle.scan.specs.Words.{Read, got, bad, and_then, onto, front, next_word, word_in, past_word, value_on, number_of, number_in, numbers_in, list_in}
 use Rattle.scan.specs.declared.Kind.TheVariants as kind
 use Rattle.text.specs.CallLines.{joint, verbs, place_among, listing_in, rest_in, call_in, placed, line_call}

@@ -1,7 +1,7 @@
 -- the last booking is the only one that can be served
 use Rattle.std.proofs.Common.{◌≡◌, ℕ, ◌-◌, ◌<◌, Bool, length, take, sym, ap, ◌∙◌, arith}
 use Rattle.std.proofs.lemmas.List.{length-take-le, get_or-take}
-use Rattle.meaning.specs.House.{House, room, stand}
+use Rattle.meaning.specs.House.{House, stand}
 use Rattle.meaning.specs.Calls.{the_booking}
 use Rattle.store.specs.Whole.{house, set_booking}
 use Rattle.store.proofs.Lents.{lent_none}

@@ -1,5 +1,5 @@
 -- Each case is written as its number and its values.
-use Rattle.std.proofs.Common.{[], ◌∷◌, length, Some, None, sym, refl, subst, arith}
+use Rattle.std.proofs.Common.{[], ◌∷◌, Some, None, sym, refl, subst, arith}
 use Rattle.meaning.specs.Calls.{refused, number, two, stands_so}
 use Rattle.protocol.specs.Forms.{answer_of}
 use Rattle.wire_answers.specs.Answers.{AnswerWritten, answer_bytes, listed}

@@ -1,5 +1,5 @@
 -- A line is a call, which is written as bytes and done, or none, which is refused where it ceases to be one.
-use Rattle.std.proofs.Common.{ℕ, List, take, sym, refl, ap, ◌∙◌, subst}
+use Rattle.std.proofs.Common.{take, sym, refl, ap, ◌∙◌, subst}
 use Rattle.calls.specs.Stage.{Done}
 use Rattle.protocol.specs.Forms.{call_of}
 use Rattle.house.proofs.Lines.{some_bytes, reads_as, not_a_call}

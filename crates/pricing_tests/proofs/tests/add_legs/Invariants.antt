@@ -2,4 +2,4 @@ use Rattle.store.specs.Whole.{Sound}
 use Rattle.pricing_tests.proofs.tests.add_legs.Given as goal
 
 abbrev pub invariant-loop-i : goal.invariant-loop-i
-invariant-loop-i l = Sound l.m
+invariant-loop-i g l = Sound l.m

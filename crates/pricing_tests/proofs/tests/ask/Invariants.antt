@@ -4,4 +4,4 @@ use Rattle.pricing_tests.proofs.tests.ask.Given as goal
 
 -- the legs gone through are there
 abbrev pub invariant-loop-x : goal.invariant-loop-x
-invariant-loop-x l = (y : ℕ) → y < l.x → get_or l.journey y 0 < length (house l.m).legs
+invariant-loop-x g l = (y : ℕ) → y < l.x → get_or l.journey y 0 < length (house l.m).legs

@@ -10,7 +10,7 @@ use Rattle.seating_tests.proofs.Bookings.{one_leg}
 use Rattle.seating_tests.proofs.tests.book.Goals as goal
 
 pub push_booking-requires : goal.push_booking-requires
-push_booking-requires c = record {
+push_booking-requires g c = record {
   sound = c.requires.sound;
   space = c.in_ok-may_book.ensures.space;
   fine =
@@ -19,7 +19,7 @@ push_booking-requires c = record {
 }
 
 pub serve_newest-requires : goal.serve_newest-requires
-serve_newest-requires c = record {
+serve_newest-requires g c = record {
   sound = c.push_booking.ensures.sound;
   newest =
       subst Newcomer (sym c.push_booking.ensures.house)

@@ -7,7 +7,7 @@ use Rattle.seating_tests.proofs.Bookings.{one_leg}
 use Rattle.seating_tests.proofs.tests.wait_for.Goals as goal
 
 pub push_booking-requires : goal.push_booking-requires
-push_booking-requires c = record {
+push_booking-requires g c = record {
   sound = c.requires;
   space = c.in_ok-may_book.ensures.space;
   fine =

@@ -3,4 +3,4 @@ use Rattle.std.proofs.Common.{◌≡◌, length}
 use Rattle.wire_rows.proofs.tests.longest_answer.Given as goal
 
 abbrev pub invariant-loop-i : goal.invariant-loop-i
-invariant-loop-i l = (length l.row ≡ 210) × (length l.list ≡ 27)
+invariant-loop-i g l = (length l.row ≡ 210) × (length l.list ≡ 27)
