@@ -57,7 +57,7 @@ pub fn read_journey(part: &[u8]) -> Option<Journey>
 }
 
 // Do limits never rise.
-fn are_falling(limits: &[u32]) -> bool
+pub fn are_falling(limits: &[u32]) -> bool
     requires { 1 ≤ length limits.now }
     ensures { result ≡ falling limits.now }
 {
@@ -70,7 +70,7 @@ fn are_falling(limits: &[u32]) -> bool
 }
 
 // Is none of them above 1,000.
-fn are_small(limits: &[u32]) -> bool
+pub fn are_small(limits: &[u32]) -> bool
     ensures { result ≡ all_to 1000 limits.now }
 {
     for limit in limits {

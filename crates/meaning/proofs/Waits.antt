@@ -1,13 +1,13 @@
 -- Nobody waits for what is free.
-use Rattle.std.proofs.Common.{◌≡◌, ℕ, suc, ◌+◌, ◌-◌, ◌*◌, ◌<◌, ◌≤◌, Bool, true, false, ◌&&◌, eqb, List, [], ◌∷◌, ◌++◌, length, get_or, set, sym, refl, ap, ◌∙◌, subst, inl, inr, arith}
-use Rattle.std.proofs.lemmas.Bool.{eqb-true, or_from, cases_lt, cases_eq, both_ways}
+use Rattle.std.proofs.Common.{◌≡◌, ℕ, zero, suc, ◌+◌, ◌-◌, ◌*◌, ◌<◌, ◌≤◌, Bool, true, false, ◌&&◌, eqb, List, [], ◌∷◌, ◌++◌, length, get_or, set, sym, refl, ap, ◌∙◌, subst, inl, inr, arith}
+use Rattle.std.proofs.lemmas.Bool.{eqb-true, eq-eqb, or_from, or_parts, cases_lt, cases_eq, both_ways}
 use Rattle.std.proofs.lemmas.List.{get_or_append_left, get_or_past, get_or-set_same, get_or-set_other}
 use Rattle.meaning.specs.Lines.{Leg, leg, cost, no_leg}
 use Rattle.meaning.specs.House.{Booking, House, taken}
-use Rattle.meaning.specs.Calls.{Call, opens, files, books, pays, cancels, limits_to, ticks, free, price_of, booking, leg_is, garbled, Limits, turned, changed, the_booking, with_limits}
+use Rattle.meaning.specs.Calls.{Call, opens, files, books, pays, cancels, limits_to, ticks, free, price_of, booking, leg_is, garbled, Limits, turned, after, changed, the_booking, with_limits}
 use Rattle.meaning.specs.Statements.{NobodyWaits, some_could}
 use Rattle.meaning.proofs.Serve.{none, at, fits, Idle, all_served}
-use Rattle.meaning.proofs.Reach.{reached}
+use Rattle.meaning.proofs.Reach.{after_is, reached}
 use Rattle.meaning.proofs.Room.{counts_held, taken_set, room_less, room_tells, room_from}
 use Rattle.meaning.proofs.Told.{pays_ok}
 
@@ -23,6 +23,17 @@ could_from h (b ∷ bs) f = or_from _ _ (go (eqb b.stands 0) refl) (could_from h
     go : (t : Bool) → eqb b.stands 0 ≡ t → (t && fits h.legs h.bookings b) ≡ false
     go true e = f 0 (eqb-true _ _ e)
     go false e = refl
+
+-- and back: a list of whom none could be held
+pub could_tells : (h : House) (bs : List Booking) → some_could h bs ≡ false → Idle h.legs h.bookings bs
+unfolding some_could
+could_tells h [] e j z = absurd (omega arith)
+could_tells h (b ∷ bs) e zero z = waits (eqb b.stands 0) (fits h.legs h.bookings b) (eq-eqb _ _ z) (or_parts _ _ e).0
+  where
+    waits : (s t : Bool) → s ≡ true → (s && t) ≡ false → t ≡ false
+    waits true t p q = q
+    waits false t p q = absurd (both_ways false refl p)
+could_tells h (b ∷ bs) e (suc j) z = could_tells h bs (or_parts _ _ e).1 j z
 
 -- one more leg makes no room
 abbrev Below : List Booking → Booking → ℕ → Leg → Type 0
@@ -73,6 +84,10 @@ step l h (price_of c is) e p = p
 step l h (booking k) e p = p
 step l h (leg_is i) e p = p
 step l h (garbled n) e p = p
+
+-- EVERY CALL KEEPS IT, whatever the house
+pub idle_after : (l : Limits) (h : House) (x : Call) → some_could h h.bookings ≡ false → some_could (after l h x) (after l h x).bookings ≡ false
+idle_after l h x e = after_is l h x (λ g. some_could g g.bookings ≡ false) e (λ t. could_from (changed h x) (changed h x).bookings (step l h x t (could_tells h h.bookings e)))
 
 pub idle : (l : Limits) (h : House) → Rattle.meaning.specs.Statements.Reached l h → Idle h.legs h.bookings h.bookings
 idle l h r = reached l (λ g. Idle g.legs g.bookings g.bookings) (step l) (λ j z. absurd (omega arith)) h r

@@ -91,7 +91,7 @@ impl Booking {
 }
 
 // A leg of its own 31 words.
-fn read_leg(w: &[u32]) -> Leg
+pub fn read_leg(w: &[u32]) -> Leg
     requires { length w.now ≡ 31 }
     ensures { result ≡ leg_read w.now }
 {
@@ -163,7 +163,7 @@ pub fn store_fare(fares: &mut [u32], k: usize, f: &Fare)
 }
 
 // A booking of its own 13 words and its sum.
-fn read_booking(w: &[u32], paid: u64) -> Booking
+pub fn read_booking(w: &[u32], paid: u64) -> Booking
     requires { length w.now ≡ 13 }
     ensures { result ≡ booking_read w.now paid }
 {

@@ -1,5 +1,5 @@
 -- A line that is read as a call is one that can be written in its fields: every number is below 2^32, and its list has at most 255 of them.
-use Rattle.std.proofs.Common.{◌≡◌, ℕ, zero, suc, ◌≤◌, Bool, true, false, eqb, ltb, leb, List, [], ◌∷◌, length, take, drop, refl, arith, lit≤}
+use Rattle.std.proofs.Common.{◌≡◌, ℕ, zero, suc, ◌-◌, ◌<◌, ◌≤◌, Bool, true, false, eqb, ltb, leb, List, [], ◌∷◌, length, take, drop, refl, arith, lit≤}
 use Rattle.std.proofs.lemmas.Bool.{and_from, lt-ltb, leb-false, ltb-true}
 use Rattle.std.specs.Str.{bytes_eq}
 use Rattle.meaning.specs.Lines.{pick}
@@ -102,3 +102,12 @@ placed_fits n (bad left) h b = absurd (omega arith)
 
 pub line_fits : (bs : List ℕ) → call_number (line_call bs) ≤ 10 → readable (line_call bs) ≡ true
 line_fits bs = placed_fits (length bs) (call_in bs) (call_fits bs)
+
+-- every line that is not too long for its places to be written is read as something that can be written in fields
+placed_readable : (n : ℕ) (r : Read Call) → OfGot Writable r → n < 4294967296 → readable (placed n r) ≡ true
+unfolding readable
+placed_readable n (got c rest) h b = h
+placed_readable n (bad left) h b = lt-ltb (n - left) 4294967296 (omega arith)
+
+pub line_readable : (bs : List ℕ) → length bs < 4294967296 → readable (line_call bs) ≡ true
+line_readable bs = placed_readable (length bs) (call_in bs) (call_fits bs)
