@@ -5,7 +5,9 @@ use lib.Seq.{take-append_seam}
 use Rattle.std.proofs.lemmas.Bool.{cases_eq, eq-eqb, ne_eqb}
 use Rattle.meaning.specs.Lines.{pick}
 use Rattle.meaning.specs.Calls.{Answer}
-use Rattle.meaning.specs.Chip.{blank, has, spoilt, Chip, Act, write, wipe, say, done, Torn, said}
+use Rattle.meaning.specs.Chip as house
+use Rattle.meaning.specs.Chip.{blank, has, spoilt, Chip, done as house_done, Torn as HouseTorn}
+use Rattle.journal.specs.Acts.{Act, write, wipe, say, done, Torn, said}
 use Rattle.protocol.specs.Forms.{answer_of}
 use Rattle.protocol.specs.declared.Answer.{Answer as Coded}
 use Rattle.flash.specs.Pages as flash
@@ -15,10 +17,29 @@ use Rattle.driver.specs.Played.{Acted}
 use Rattle.chips.specs.Recorded.{said_means}
 use Rattle.chips.specs.declared.Said.{Said}
 
+-- the house's act as one of any machine
+abbrev pub as_any : house.Act → Act Answer
+as_any (house.write k bs) = write k bs
+as_any (house.wipe b) = wipe b
+as_any (house.say a) = say a
+
+-- it does the same, and is torn in the same ways
+same_done : (d : Chip) (x : house.Act) (j : ℕ) → house_done d x j ≡ done d (as_any x) j
+unfolding house_done done
+same_done d (house.write k bs) j = refl
+same_done d (house.wipe b) j = refl
+same_done d (house.say a) j = refl
+
+same_torn : (d e : Chip) (x : house.Act) → HouseTorn d x e → Torn d (as_any x) e
+unfolding HouseTorn Torn
+same_torn d e (house.write k bs) t = t
+same_torn d e (house.wipe b) t = t
+same_torn d e (house.say a) t = t
+
 -- an act that gives no answer
-pub acted_in : (x : Act Answer) (old new : List ℕ) (ts : List Answer) (held : Bool) → said (x ∷ []) ≡ [] → flash.Acted x old new held → Acted (chip_in old) ts x (chip_in new) ts held
-acted_in x old new ts true quiet a = (fun_ext (a.whole refl), sym (ap (λ r. ts ++ r) quiet ∙ append-nil ts))
-acted_in x old new ts false quiet a = (a.torn refl, refl)
+pub acted_in : (x : house.Act) (old new : List ℕ) (ts : List Answer) (held : Bool) → said (as_any x ∷ []) ≡ [] → flash.Acted x old new held → Acted (chip_in old) ts (as_any x) (chip_in new) ts held
+acted_in x old new ts true quiet a = (fun_ext (λ j. a.whole refl j ∙ same_done (chip_in old) x j), sym (ap (λ r. ts ++ r) quiet ∙ append-nil ts))
+acted_in x old new ts false quiet a = (same_torn (chip_in old) (chip_in new) x (a.torn refl), refl)
 
 pub quiet_write : (k : ℕ) (bs : List ℕ) → said {A = Answer} (write k bs ∷ []) ≡ []
 unfolding said

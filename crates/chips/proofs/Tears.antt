@@ -1,9 +1,10 @@
 -- An act that was done is one of those that a tear leaves.
-use Rattle.std.proofs.Common.{◌≡◌, ℕ, ◌/◌, ◌⊎◌, refl, ap, inl, inr}
+use Rattle.std.proofs.Common.{◌/◌, refl, ap, inl, inr}
 use Rattle.std.proofs.lemmas.Bool.{cases_eq, eq-eqb, ne_eqb}
 use Rattle.meaning.specs.Lines.{pick}
 use Rattle.meaning.specs.Calls.{Answer}
-use Rattle.meaning.specs.Chip.{Chip, Act, write, wipe, say, blank, written_on, done, Torn}
+use Rattle.meaning.specs.Chip.{Chip, blank, written_on}
+use Rattle.journal.specs.Acts.{Act, write, wipe, say, done, Torn}
 
 pub done_is_torn : (d : Chip) (x : Act Answer) → Torn d x (done d x)
 unfolding done Torn

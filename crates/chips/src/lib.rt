@@ -4,7 +4,7 @@
 #![tactic(auto)]
 
 ghost use Rattle.std.specs.Prelude.{◌≡◌, ◌*◌, ◌<◌, ◌≤◌, true, false, not, [], length, replicate, vec_len, vec_capacity, ◌==◌, slice_index};
-ghost use Rattle.meaning.specs.Chip.{say, wipe, write};
+ghost use Rattle.journal.specs.Acts.{say, wipe, write};
 ghost use Rattle.meaning.specs.Lines.{pick};
 ghost use Rattle.protocol.specs.Forms.{answer_of};
 ghost use Rattle.flash.specs.Pages.{Spent, chip_in, erase_leaves, write_leaves};

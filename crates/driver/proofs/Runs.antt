@@ -1,7 +1,8 @@
 -- Acts one after the other, on a chip.
-use Rattle.std.proofs.Common.{◌≡◌, ℕ, suc, ◌+◌, ◌<◌, ◌≤◌, Bool, true, false, List, [], ◌∷◌, ◌++◌, length, take, sym, refl, ap, ◌∙◌, subst, ap₂, append_assoc, append-nil, arith, length-append}
+use Rattle.std.proofs.Common.{◌≡◌, ℕ, suc, ◌+◌, ◌<◌, Bool, true, false, List, [], ◌∷◌, ◌++◌, length, take, sym, refl, ap, ◌∙◌, subst, append_assoc, append-nil, arith, length-append}
 use Rattle.meaning.specs.Calls.{Answer, Call}
-use Rattle.meaning.specs.Chip.{Chip, Act, write, wipe, say, done, all_done, Torn, LeftAfter, said}
+use Rattle.meaning.specs.Chip.{Chip}
+use Rattle.journal.specs.Acts.{Act, done, all_done, Torn, LeftAfter, said}
 use Rattle.journal.proofs.Machine.{said-++}
 use Rattle.journal.proofs.Runs.{all-done-++}
 use Rattle.store.specs.declared.Memory.{Memory}
@@ -10,12 +11,12 @@ use Rattle.journal_steps.specs.declared.Work.TheVariants as work
 use Rattle.limits.specs.Opening.{limits_mean}
 use Rattle.limits.specs.declared.Limits.{Limits}
 use Rattle.store.specs.Whole.{house}
-use Rattle.calls.specs.Stage.{stage, stage-calls}
+use Rattle.every_call.specs.Stage.{stage, stage_calls}
 use Rattle.journal_steps.specs.Steps.{journal_of, owed}
 use Rattle.journal_steps.specs.declared.Journal.{Journal}
 use Rattle.session.specs.Acts.{Takes, answer_kept, at_rest, call_kept, pending, rests}
 use Rattle.session.specs.declared.Session.{Session}
-use Rattle.driver.specs.Played.{Acted, CallPlayed, Finished, Kept, OneAct, Progress, Stopped}
+use Rattle.driver.specs.Played.{CallPlayed, Finished, Kept, OneAct, Progress, Stopped}
 
 -- power that fails after some acts were done
 pub left_later : (d e : Chip) (xs ys : List (Act Answer)) (k : ℕ) → LeftAfter (all_done d xs) ys k e → LeftAfter d (xs ++ ys) (length xs + k) e
@@ -82,7 +83,7 @@ pub played : (s b t : Session) (m n : Memory) (c : Call) (d e : Chip) (ts us : L
     CallPlayed s t m n c d ts e us held
 played s b t m n c d e ts us held k f q r = record {
   next = ap (λ (j : Journal). journal_of (stage m) j (house n)) q.journal ∙ k.next;
-  acts = subst (λ (xs : List (Act Answer)). Finished d ts xs e us held) (ap (λ (l : Limits). owed (limits_mean stage-calls l) b.journal (house n) b.work (call_kept b) (answer_kept b)) k.lent.limits ∙ k.acts) f;
+  acts = subst (λ (xs : List (Act Answer)). Finished d ts xs e us held) (ap (λ (l : Limits). owed (limits_mean stage_calls l) b.journal (house n) b.work (call_kept b) (answer_kept b)) k.lent.limits ∙ k.acts) f;
   ready = q.ready;
   rests = r;
   lent = k.lent;

@@ -8,10 +8,10 @@ use Rattle.limits.specs.Opening.{limits_mean}
 use Rattle.limits.specs.declared.Limits.{Limits}
 use Rattle.store.specs.Whole.{Lent, Sound, house}
 use Rattle.store.specs.declared.Memory.{Memory}
-use Rattle.calls.specs.Stage.{stage, stage-calls}
+use Rattle.every_call.specs.Stage.{stage, stage_calls}
 use Rattle.journal_rows.specs.Layout.{Reads}
 use Rattle.journal_rows.specs.Bytes.{page_bytes}
-use Rattle.journal_steps.specs.Steps.{Fits, chip_limits, journal_of}
+use Rattle.journal_steps.specs.Steps.{chip_limits, journal_of}
 use Rattle.journal_steps.specs.declared.Journal.{Journal}
 use Rattle.journal_start.specs.Starting.{Unfit}
 use Rattle.journal_start.specs.Stages.{At, StageFits, reading_of, taken, wanted}
@@ -42,12 +42,12 @@ module _ (d : Chip) (m : Memory) (s : Stage) (k : ℕ) (sound : Sound m) (fits :
 
   module _ (p : Page) (e : p ≡ d k) (n : Memory) (lent : Lent m n) where
     right_page : p ≡ asked d m s
-    right_page = e ∙ asked_page d m s k (w stage-calls (house m))
+    right_page = e ∙ asked_page d m s k (w stage_calls (house m))
 
     -- a chip that reads as calls is not refused
     pub no_refusal : Unfit (stage m) (reading_of (stage m) s (house m)) p → (ts : List Call) → Reads (stage n) page_bytes d ts → ⊥
     no_refusal bad ts r =
-        not_refused d _ m s p sound fits (subst (λ (l : Limits). Reads (limits_mean stage-calls l) page_bytes d ts) lent.limits r) right_page met bad
+        not_refused d _ m s p sound fits (subst (λ (l : Limits). Reads (limits_mean stage_calls l) page_bytes d ts) lent.limits r) right_page met bad
 
     pub page_on : (t : Stage) → At m n t (taken (stage m) (reading_of (stage m) s (house m)) p) → Follows d n t
     page_on t at = goes_on d m n s t p sound fits lent right_page at met
@@ -56,9 +56,9 @@ module _ (d : Chip) (m : Memory) (s : Stage) (k : ℕ) (sound : Sound m) (fits :
     page_less t at =
         let v = reading_of (stage m) s (house m) in
         let o = open_still m s fits.ranges in
-        let b = subst (Bounded (stage m)) at.reading (subst (λ (l : Limits). Bounded (limits_mean stage-calls l) (reading_of (limits_mean stage-calls l) t (house n))) lent.limits (bounded stage-calls n.limits t (house n) at.fits.ranges)) in
-        let f = fewer (stage m) v p (some_left (stage m) s (house m) k o (w stage-calls (house m))) o b in
-        subst (λ (l : Limits). unread_pages (limits_mean stage-calls l) (reading_of (limits_mean stage-calls l) t (house n)) < unread_pages (stage m) v) (sym lent.limits) (subst (λ x. unread_pages (stage m) x < unread_pages (stage m) v) (sym at.reading) f)
+        let b = subst (Bounded (stage m)) at.reading (subst (λ (l : Limits). Bounded (limits_mean stage_calls l) (reading_of (limits_mean stage_calls l) t (house n))) lent.limits (bounded stage_calls n.limits t (house n) at.fits.ranges)) in
+        let f = fewer (stage m) v p (some_left (stage m) s (house m) k o (w stage_calls (house m))) o b in
+        subst (λ (l : Limits). unread_pages (limits_mean stage_calls l) (reading_of (limits_mean stage_calls l) t (house n)) < unread_pages (stage m) v) (sym lent.limits) (subst (λ x. unread_pages (stage m) x < unread_pages (stage m) v) (sym at.reading) f)
 
 -- when none is wanted all is read
 pub none_left : (l : Limits) (s : Stage) (h : House) → None ≡ wanted (limits_mean whole l) (reading_of (limits_mean whole l) s h) → ((f : Found) → s ≡ Ready f → ⊥) → ⊥

@@ -1,10 +1,11 @@
 -- What was done on a chip, and which answers were given, when all acts were done or power failed in one of them. Definitions only: nothing is assumed or proved here.
 use Rattle.std.specs.Prelude.{◌≡◌, ℕ, ◌<◌, Bool, true, false, List, [], ◌∷◌, ◌++◌, length, take, Some, None, Option}
 use Rattle.meaning.specs.Calls.{Answer, Call}
-use Rattle.meaning.specs.Chip.{Page, blank, has, spoilt, Chip, Act, done, all_done, Torn, LeftAfter, said}
+use Rattle.meaning.specs.Chip.{Page, blank, has, spoilt, Chip}
+use Rattle.journal.specs.Acts.{Act, done, all_done, Torn, LeftAfter, said}
 use Rattle.store.specs.declared.Memory.{Memory}
 use Rattle.store.specs.Whole.{Lent, house}
-use Rattle.calls.specs.Stage.{stage}
+use Rattle.every_call.specs.Stage.{stage}
 use Rattle.journal_rows.specs.Layout.{Reads, program}
 use Rattle.journal_rows.specs.Bytes.{page_bytes}
 use Rattle.journal_steps.specs.Steps.{journal_of}

@@ -5,12 +5,13 @@
 
 ghost use Rattle.std.specs.Prelude.{◌≡◌, ℕ, ◌*◌, ◌<◌, ◌≤◌, true, false, List};
 ghost use Rattle.meaning.specs.Calls.{Answer as Given, garbled, new_house};
-ghost use Rattle.meaning.specs.Chip.{Chip, write, wipe, say};
+ghost use Rattle.meaning.specs.Chip.{Chip};
+ghost use Rattle.journal.specs.Acts.{write, wipe, say};
 ghost use Rattle.meaning.specs.Promise.{room_for};
 ghost use Rattle.protocol.specs.Forms.{answer_of};
 ghost use Rattle.store.specs.Whole.{Lent, Sound, house};
 ghost use Rattle.wire.specs.Rows.{decoded};
-ghost use Rattle.calls.specs.Stage.{stage};
+ghost use Rattle.every_call.specs.Stage.{stage};
 ghost use Rattle.journal_start.specs.Stages.{StageFits, Taken};
 ghost use Rattle.journal_steps.specs.Steps.{chip_limits};
 ghost use Rattle.session.specs.Acts.{Ready, at_rest, pending};

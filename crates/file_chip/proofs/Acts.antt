@@ -1,7 +1,8 @@
 -- An act that the mirror has done, or that was torn there, is one that counts as torn where the file could not be written.
-use Rattle.std.proofs.Common.{◌≡◌, Bool, true, false, List, [], ◌∷◌, ◌++◌, sym, refl, ap, ◌∙◌, subst, append-nil}
+use Rattle.std.proofs.Common.{◌≡◌, Bool, true, false, List, [], ◌∷◌, ◌++◌, sym, ap, ◌∙◌, subst, append-nil}
 use Rattle.meaning.specs.Calls.{Answer}
-use Rattle.meaning.specs.Chip.{Chip, Act, done, Torn, said}
+use Rattle.meaning.specs.Chip.{Chip}
+use Rattle.journal.specs.Acts.{Act, Torn, said}
 use Rattle.driver.specs.Played.{Acted}
 use Rattle.chips.proofs.Tears.{done_is_torn}
 

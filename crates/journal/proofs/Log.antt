@@ -1,11 +1,8 @@
 -- Lemmas on logs: what a write, done or torn, leaves of one.
-use Rattle.std.proofs.Common.{◌≡◌, ℕ, zero, suc, ◌+◌, ◌*◌, ◌/◌, ◌<◌, ◌≤◌, Bool, true, false, ◌&&◌, eqb, ltb, ◌⊎◌, List, [], ◌∷◌, ◌++◌, length, take, sym, refl, ap, ◌∙◌, subst, inl, inr, append_assoc, arith}
-use mathlib.Core.Path.{fun_ext}
-use mathlib.Core.Option.{Option, none, some}
-use Rattle.std.proofs.lemmas.Bool.{and_parts, and_from, eqb-true, eqb-false, eq-eqb, ne_eqb, cases_eq, cases_Bool}
-use Rattle.meaning.specs.Lines.{pick}
-use Rattle.meaning.specs.Chip.{Page, blank, has, spoilt, Chip, Act, write, wipe, say, written_on, done, all_done, Torn, LeftAfter, said, all_bytes, is_blank, careful}
-use Rattle.meaning.specs.Promise.{Program, acts}
+use Rattle.std.proofs.Common.{◌≡◌, ℕ, zero, suc, ◌+◌, ◌/◌, ◌<◌, ◌⊎◌, List, refl, ap, ◌∙◌, inl, inr, arith}
+use Rattle.std.proofs.lemmas.Bool.{eq-eqb, ne_eqb, cases_eq}
+use Rattle.meaning.specs.Chip.{Page, blank, has, spoilt, Chip, written_on}
+use Rattle.journal.specs.Acts.{write, wipe, done, Torn}
 use Rattle.journal.specs.Slots.{replay}
 
 -- one chip is another but for a page

@@ -1,9 +1,10 @@
 -- One call at a time suffices.
-use Rattle.std.proofs.Common.{◌≡◌, ℕ, zero, suc, ◌+◌, ◌*◌, ◌/◌, ◌<◌, ◌≤◌, Bool, true, false, ◌&&◌, eqb, ltb, ◌⊎◌, List, [], ◌∷◌, ◌++◌, length, take, sym, refl, ap, ◌∙◌, subst, inl, inr, append_assoc, arith}
+use Rattle.std.proofs.Common.{◌≡◌, ℕ, zero, suc, true, ◌⊎◌, List, [], ◌∷◌, ◌++◌, length, take, sym, refl, ap, ◌∙◌, subst, inl, inr, append_assoc, arith}
 use mathlib.Core.Path.{fun_ext}
 use Rattle.std.proofs.lemmas.Bool.{and_parts, and_from}
-use Rattle.meaning.specs.Chip.{Page, blank, has, spoilt, Chip, Act, write, wipe, say, written_on, done, all_done, Torn, LeftAfter, said, all_bytes, is_blank, careful}
-use Rattle.meaning.specs.Promise.{Program, acts}
+use Rattle.meaning.specs.Chip.{Chip}
+use Rattle.journal.specs.Acts.{Act, write, wipe, say, done, all_done, Torn, LeftAfter, said, careful}
+use Rattle.journal.specs.Programs.{Program, acts}
 use Rattle.journal.specs.Costs.{Rising}
 use Rattle.journal.specs.Machine.{Machine, answers, ran, all_readable, IsMachine, Steps, ReadsBy}
 

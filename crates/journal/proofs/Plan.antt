@@ -1,12 +1,11 @@
 -- A call one act at a time.
-use Rattle.std.proofs.Common.{◌≡◌, ℕ, zero, suc, ◌+◌, ◌-◌, ◌*◌, ◌/◌, ◌%◌, ◌<◌, ◌≤◌, Bool, true, false, not, ◌&&◌, eqb, ltb, List, [], ◌∷◌, ◌++◌, map, length, get_or, take, drop, sym, refl, ap, ◌∙◌, subst, append_assoc, arith, drop_of_length-le, drop-cons}
+use Rattle.std.proofs.Common.{◌≡◌, ℕ, suc, ◌+◌, ◌/◌, Bool, true, false, not, ltb, List, [], ◌∷◌, ◌++◌, length, get_or, drop, refl, ap, ◌∙◌, append_assoc, drop_of_length-le, drop-cons}
 use Rattle.std.proofs.lemmas.Bool.{ltb-true, ltb-false}
 use Rattle.meaning.specs.Lines.{pick}
-use Rattle.meaning.specs.Chip.{Chip, Act, write, wipe, say}
-use Rattle.meaning.specs.Promise.{Program}
+use Rattle.journal.specs.Acts.{Act, wipe, say}
 use Rattle.journal.specs.Machine.{Machine}
-use Rattle.journal.specs.Slots.{Turn, up, Rows, first, base, kept_at, next_block, put, puts, Journal, rows_of, has_room, place, logs, opens, checkpoints, with_page, with_checkpoint, journal_quiet, journal_next, journal_program}
-use Rattle.journal.specs.Plan.{Work, resting, answering, logging, logging_now, opening, opening_more, erasing, filling, filling_now, begins_block, commit_write, fills, fill, log_page, plan, act_of, left_of, begins, Planned}
+use Rattle.journal.specs.Slots.{up, Rows, first, kept_at, put, puts, Journal, rows_of, has_room, place, logs, opens, checkpoints, with_page, with_checkpoint, journal_next, journal_program}
+use Rattle.journal.specs.Plan.{Work, resting, answering, logging, logging_now, opening, opening_more, erasing, filling, filling_now, begins_block, commit_write, fills, fill, plan, act_of, left_of, begins, Planned}
 
 module _ {C A : Type 0} (m : Machine C A) (S R : ℕ) (r : Rows m) where
   whole_plan : (s : Journal m) (c : C) → (journal_program m S R r).does s c ≡ plan m S R r (journal_next m S R r s c) (begins m S R r s c)

@@ -1,14 +1,12 @@
 -- Runs of acts: pages put one after the other, each block erased before; done, and torn. And places in a ring.
-use Rattle.std.proofs.Common.{◌≡◌, ℕ, zero, suc, ◌+◌, ◌-◌, ◌*◌, ◌/◌, ◌%◌, ◌<◌, ◌≤◌, Bool, true, false, not, ◌&&◌, eqb, ltb, ◌⊎◌, List, [], ◌∷◌, ◌++◌, map, length, get_or, take, sym, refl, ap, ◌∙◌, subst, inl, inr, append_assoc, arith}
-use mathlib.Core.Path.{fun_ext}
-use mathlib.Core.Option.{Option, none, some}
-use Rattle.std.proofs.lemmas.Bool.{and_parts, and_from, eqb-true, eqb-false, eq-eqb, ne_eqb, cases_eq, lt-ltb, ltb-true, ltb-false}
+use Rattle.std.proofs.Common.{◌≡◌, ℕ, zero, suc, ◌+◌, ◌-◌, ◌*◌, ◌/◌, ◌%◌, ◌<◌, ◌≤◌, Bool, true, false, eqb, ltb, ◌⊎◌, List, [], ◌∷◌, ◌++◌, length, sym, refl, ap, ◌∙◌, subst, inl, inr, append_assoc, arith}
+use Rattle.std.proofs.lemmas.Bool.{and_from, eqb-true, eqb-false, eq-eqb, cases_eq, lt-ltb, ltb-true, ltb-false}
 use Rattle.meaning.specs.Lines.{pick}
-use Rattle.meaning.specs.Chip.{Page, blank, has, spoilt, Chip, Act, write, wipe, say, written_on, done, all_done, Torn, LeftAfter, said, all_bytes, is_blank, careful}
-use Rattle.meaning.specs.Promise.{Program, acts}
+use Rattle.meaning.specs.Chip.{blank, has, spoilt, Chip, is_blank}
+use Rattle.journal.specs.Acts.{Act, write, wipe, done, all_done, Torn, LeftAfter, said, careful}
 use Rattle.journal.specs.Costs.{Rising, writes, wipes}
-use Rattle.journal.specs.Slots.{whole_row, AllOf, replay, RowsAt, scan, scanned, pages_from, around, ring_page, ring, next_block, ahead, put, puts}
-use Rattle.journal.proofs.Log.{But, written_but, written_at, wiped_in, wiped_off, replay_same}
+use Rattle.journal.specs.Slots.{whole_row, AllOf, RowsAt, scan, scanned, pages_from, around, ring_page, ring, next_block, ahead, put, puts}
+use Rattle.journal.proofs.Log.{written_but, written_at, wiped_in, wiped_off}
 use Rattle.journal.proofs.Machine.{careful-++, said-++, rising-++}
 
 -- power fails in the first or in the second part

@@ -1,16 +1,16 @@
 -- The journal in two slots and a ring is the state; a start looks at few pages, a call does few acts, and pages of a block are written in rising order.
-use Rattle.std.proofs.Common.{◌≡◌, ℕ, zero, suc, ◌+◌, ◌-◌, ◌*◌, ◌/◌, ◌%◌, ◌<◌, ◌≤◌, Bool, true, false, not, ◌&&◌, eqb, ltb, ◌⊎◌, List, [], ◌∷◌, ◌++◌, map, length, get_or, take, sym, refl, ap, ◌∙◌, subst, inl, inr, append_assoc, arith, length-append}
+use Rattle.std.proofs.Common.{◌≡◌, ℕ, zero, suc, ◌+◌, ◌-◌, ◌*◌, ◌/◌, ◌%◌, ◌<◌, ◌≤◌, Bool, true, false, not, ltb, ◌⊎◌, List, [], ◌∷◌, ◌++◌, map, length, get_or, take, sym, refl, ap, ◌∙◌, subst, inl, inr, append_assoc, arith, length-append}
 use mathlib.Core.Path.{fun_ext}
 use mathlib.Core.Option.{Option, none, some}
-use Rattle.std.proofs.lemmas.Bool.{and_parts, and_from, eq-eqb, ne_eqb, cases_eq, cases_lt, lt-ltb, ltb-true, ltb-false}
+use Rattle.std.proofs.lemmas.Bool.{and_parts, and_from, cases_eq, lt-ltb, ltb-true, ltb-false}
 use Rattle.meaning.specs.Lines.{pick}
-use Rattle.meaning.specs.Chip.{Page, blank, has, spoilt, Chip, Act, write, wipe, say, written_on, done, all_done, Torn, LeftAfter, said, all_bytes, is_blank, careful}
-use Rattle.meaning.specs.Promise.{Program, acts}
+use Rattle.meaning.specs.Chip.{Page, blank, has, spoilt, Chip, is_blank}
+use Rattle.journal.specs.Acts.{Act, write, wipe, say, done, all_done, Torn, LeftAfter, said, careful}
 use Rattle.journal.specs.Costs.{Rising, writes, wipes}
 use Rattle.journal.specs.Machine.{Machine, IsMachine, Steps, ReadsBy}
-use Rattle.journal.specs.Slots.{Turn, one, two, three, up, later, whole_row, did, AllOf, Commit, Rows, Laws, replay, RowsAt, scan, scanned, pages_from, acted_some, acted_page, commit_of, first, base, kept_at, around, ring_page, ring, larger, longest, ahead, put, puts, next_block, Journal, never_used, journal_read, journal_start, rows_of, has_room, place, logs, opens, checkpoints, journal_quiet, with_page, with_checkpoint, journal_next, journal_program, looks_slot, looks_in, looks, Bare, Stale, Passes, Logged, IsInUse, Unused, Body, in_use, unused, Held, SlotsHold, StartsFast, CommitsTell, FewActs, InOrder}
+use Rattle.journal.specs.Slots.{Turn, one, two, three, up, later, whole_row, did, AllOf, Commit, Rows, Laws, replay, RowsAt, scan, scanned, pages_from, acted_page, commit_of, first, base, kept_at, around, ring_page, ring, longest, ahead, puts, next_block, Journal, never_used, journal_read, journal_start, rows_of, has_room, place, logs, opens, checkpoints, journal_quiet, with_page, with_checkpoint, journal_program, looks_slot, looks_in, Bare, Stale, Passes, Logged, IsInUse, Body, in_use, unused, Held, SlotsHold, StartsFast, CommitsTell, FewActs, InOrder}
 use Rattle.journal.proofs.Log.{But, written_but, written_at, wiped_in, wiped_off, LeftAt, nothing, whole, part, torn_write, replay_same, replay_front}
-use Rattle.journal.proofs.Runs.{left-++, all-done-++, wipe_torn, rows_same, Rest, Away, ahead_off, ahead_in, ahead_torn, put_is, put_careful, put_rises, put_silent, put_writes, put_wipes, puts_off, puts_torn, puts_in, puts_careful, puts_rise, puts_silent, puts_writes, puts_wipes, around_is, ring_is, place_in, block_in, place_mod, apart_in, hit, miss, scan_log, scanned_few, scanned_same, pages_many, pages_each}
+use Rattle.journal.proofs.Runs.{left-++, all-done-++, rows_same, Rest, Away, ahead_off, ahead_in, ahead_torn, put_is, put_careful, put_rises, put_silent, put_writes, put_wipes, puts_off, puts_torn, puts_in, puts_careful, puts_rise, puts_silent, puts_writes, puts_wipes, around_is, ring_is, place_in, block_in, place_mod, apart_in, hit, miss, scan_log, scanned_few, scanned_same, pages_many, pages_each}
 use Rattle.journal.proofs.Machine.{careful-++, said-++, rising-++, steps_suffice, run_rises}
 
 pub not_not : (x : Bool) → not (not x) ≡ x

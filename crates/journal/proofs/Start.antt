@@ -1,12 +1,11 @@
 -- A start one page at a time.
-use Rattle.std.proofs.Common.{◌≡◌, ℕ, zero, suc, ◌+◌, ◌-◌, ◌*◌, ◌<◌, ◌≤◌, Bool, true, false, not, ◌&&◌, ltb, sym, refl, ap, ◌∙◌, subst, arith}
+use Rattle.std.proofs.Common.{◌≡◌, ℕ, suc, ◌+◌, ◌-◌, ◌*◌, ◌<◌, Bool, true, false, ltb, refl, ap, ◌∙◌, arith}
 use mathlib.Core.Option.{Option, none, some}
 use Rattle.std.proofs.lemmas.Bool.{ltb-true, ltb-false}
 use Rattle.meaning.specs.Lines.{pick}
 use Rattle.meaning.specs.Chip.{Page, Chip, is_blank}
-use Rattle.meaning.specs.Promise.{Program}
 use Rattle.journal.specs.Machine.{Machine}
-use Rattle.journal.specs.Slots.{Turn, three, later, Commit, Rows, replay, scan, acted_page, commit_of, base, kept_at, ring_page, ring, Journal, journal_read, journal_start, journal_program}
+use Rattle.journal.specs.Slots.{later, Commit, Rows, replay, scan, acted_page, commit_of, base, kept_at, ring_page, ring, journal_read, journal_start}
 use Rattle.journal.specs.Start.{Reading, unread, one_commit, reading, replaying, ready, found_so, wants, replays_on, reads_on, chosen, takes, replayed, comes, OpenStill, Started}
 use Rattle.journal.proofs.Log.{replay_front}
 

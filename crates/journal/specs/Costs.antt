@@ -1,6 +1,7 @@
 -- What acts cost, and in which order pages are written. Definitions only: nothing is assumed or proved here.
 use Rattle.std.specs.Prelude.{◌≡◌, ℕ, suc, ◌/◌, ◌<◌, List, [], ◌∷◌}
-use Rattle.meaning.specs.Chip.{blank, Chip, Act, write, wipe, say, done}
+use Rattle.meaning.specs.Chip.{blank, Chip}
+use Rattle.journal.specs.Acts.{Act, write, wipe, say, done}
 
 module _ {A : Type 0} where
   -- pages of a block are written in rising order between two erasures of it: whenever one is written, all after it in its block are blank

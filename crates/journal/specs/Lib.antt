@@ -1,3 +1,5 @@
+pub mod Acts
+pub mod Programs
 pub mod Machine
 pub mod Costs
 pub mod Slots

@@ -1,7 +1,8 @@
 -- The promise over any machine, and steps that suffice for it.
-use Rattle.std.specs.Prelude.{◌≡◌, ℕ, zero, suc, ◌+◌, ◌*◌, ◌/◌, ◌<◌, ◌≤◌, Bool, true, false, ◌&&◌, ◌⊎◌, List, [], ◌∷◌, ◌++◌, length, take}
-use Rattle.meaning.specs.Chip.{Page, blank, Chip, Act, say, done, all_done, LeftAfter, said, careful}
-use Rattle.meaning.specs.Promise.{Program, acts}
+use Rattle.std.specs.Prelude.{◌≡◌, ℕ, suc, Bool, true, ◌&&◌, ◌⊎◌, List, [], ◌∷◌, ◌++◌, length, take}
+use Rattle.meaning.specs.Chip.{blank, Chip}
+use Rattle.journal.specs.Acts.{Act, say, all_done, LeftAfter, said, careful}
+use Rattle.journal.specs.Programs.{Program, acts}
 
 -- what is meant: a state of any kind
 pub record Machine (C A : Type 0) : Type 1 where

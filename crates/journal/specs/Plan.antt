@@ -1,10 +1,9 @@
 -- A call one act at a time. The state is the one after the call, the state in it already changed; the work says what is still to be written, erased and said. Definitions only: nothing is assumed or proved here.
-use Rattle.std.specs.Prelude.{◌≡◌, ℕ, zero, suc, ◌+◌, ◌-◌, ◌*◌, ◌/◌, ◌%◌, ◌<◌, ◌≤◌, Bool, true, false, not, ◌&&◌, List, [], ◌∷◌, ◌++◌, map, length, drop, ◌==◌, ◌≢◌, nat_lt, slice_index_or}
+use Rattle.std.specs.Prelude.{◌≡◌, ℕ, suc, ◌+◌, ◌*◌, ◌/◌, ◌%◌, Bool, List, [], ◌∷◌, ◌++◌, length, drop, ◌==◌, ◌≢◌, nat_lt, slice_index_or}
 use Rattle.meaning.specs.Lines.{pick}
-use Rattle.meaning.specs.Chip.{Chip, Act, write, wipe, say}
-use Rattle.meaning.specs.Promise.{Program}
+use Rattle.journal.specs.Acts.{Act, write, wipe, say}
 use Rattle.journal.specs.Machine.{Machine}
-use Rattle.journal.specs.Slots.{Turn, up, Rows, first, base, kept_at, next_block, put, puts, Journal, rows_of, has_room, place, logs, journal_next, journal_program}
+use Rattle.journal.specs.Slots.{Rows, first, base, kept_at, next_block, puts, Journal, rows_of, has_room, place, logs, journal_next, journal_program}
 
 pub data Work (C A : Type 0) : Type 0 where
   resting : Work C A  -- nothing is to be done

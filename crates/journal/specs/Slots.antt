@@ -2,11 +2,12 @@
 -- the log, one page for each call that changed something; it goes round, begins where the commit record of the slot in use says, and ends at the first blank page; spoilt pages in it are passed over. When the
 -- log has grown as long as the checkpoint with its commit record, the next change writes a checkpoint into the other slot, and a new log begins where the old one ends. In the ring one block is erased ahead, so
 -- that whoever reads a log never meets what an older round left. Definitions only: nothing is assumed or proved here.
-use Rattle.std.specs.Prelude.{◌≡◌, ℕ, zero, suc, ◌+◌, ◌-◌, ◌*◌, ◌/◌, ◌%◌, ◌<◌, ◌≤◌, Bool, true, false, not, ◌&&◌, ◌⊎◌, List, [], ◌∷◌, ◌++◌, map, length, take, ◌==◌, nat_lt}
+use Rattle.std.specs.Prelude.{◌≡◌, ℕ, zero, suc, ◌+◌, ◌-◌, ◌*◌, ◌/◌, ◌%◌, ◌<◌, ◌≤◌, Bool, true, false, not, ◌&&◌, ◌⊎◌, List, [], ◌∷◌, ◌++◌, map, length, ◌==◌, nat_lt}
 use Rattle.std.proofs.Math.Option.{Option, none, some}
 use Rattle.meaning.specs.Lines.{pick}
-use Rattle.meaning.specs.Chip.{Page, blank, has, spoilt, Chip, Act, write, wipe, say, all_done, LeftAfter, said, is_blank, all_bytes, careful}
-use Rattle.meaning.specs.Promise.{Program, acts}
+use Rattle.meaning.specs.Chip.{Page, blank, has, spoilt, Chip, is_blank, all_bytes}
+use Rattle.journal.specs.Acts.{Act, write, wipe, say}
+use Rattle.journal.specs.Programs.{Program, acts}
 use Rattle.journal.specs.Costs.{writes, wipes, Rising}
 use Rattle.journal.specs.Machine.{Machine, all_readable}
 

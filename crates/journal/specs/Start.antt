@@ -1,11 +1,10 @@
 -- A start one page at a time: the commit records of both slots, then the checkpoint's pages of the slot in use, then the pages of the log up to the first blank one. Definitions only: nothing is assumed or proved here.
-use Rattle.std.specs.Prelude.{◌≡◌, ℕ, zero, suc, ◌+◌, ◌-◌, ◌*◌, ◌<◌, ◌≤◌, Bool, true, false, not, ◌&&◌, nat_lt}
+use Rattle.std.specs.Prelude.{◌≡◌, ℕ, suc, ◌+◌, ◌-◌, ◌*◌, ◌<◌, Bool, true, false, nat_lt}
 use Rattle.std.proofs.Math.Option.{Option, none, some}
 use Rattle.meaning.specs.Lines.{pick}
 use Rattle.meaning.specs.Chip.{Page, Chip, is_blank}
-use Rattle.meaning.specs.Promise.{Program}
 use Rattle.journal.specs.Machine.{Machine}
-use Rattle.journal.specs.Slots.{Turn, three, later, Commit, Rows, replay, scan, acted_page, commit_of, base, kept_at, ring_page, ring, Journal, never_used, journal_start, journal_program}
+use Rattle.journal.specs.Slots.{later, Commit, Rows, replay, scan, acted_page, commit_of, base, kept_at, ring_page, ring, Journal, never_used, journal_start, journal_program}
 
 -- how far a start has come: nothing is read; the first commit record is; of the slot with this commit record so many pages of the checkpoint are, and they came to this state; so many pages of its log are; all is
 pub data Reading {C A : Type 0} (m : Machine C A) (r : Rows m) : Type 0 where

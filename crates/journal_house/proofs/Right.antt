@@ -2,7 +2,8 @@
 use Rattle.std.proofs.Common.{◌≡◌, ℕ, suc, ◌+◌, ◌≤◌, Bool, List, [], ◌∷◌, length, refl, ap, ◌∙◌, subst}
 use Rattle.meaning.specs.House.{House}
 use Rattle.meaning.specs.Calls.{Call, Limits, after, answers, ran, new_house}
-use Rattle.meaning.specs.Promise.{GoodLimits, all_readable, room_for, IsTheHouse, Right}
+use Rattle.meaning.specs.Promise.{GoodLimits, all_readable, room_for}
+use Rattle.journal.specs.Programs.{IsTheHouse, Right}
 use Rattle.journal.specs.Machine as machine
 use Rattle.journal.specs.Slots.{longest, looks}
 use Rattle.journal.proofs.Slots.{slots, starts_fast, commits_tell, few_acts, in_order}

@@ -2,7 +2,7 @@
 use Rattle.std.proofs.Common.{ℕ, ◌+◌, ◌*◌, ◌/◌, ◌≤◌, arith}
 use Rattle.meaning.specs.Calls.{Limits}
 use Rattle.meaning.specs.Promise.{room_for}
-use Rattle.journal_rows.specs.Layout.{leg_pages, fare_pages, booking_pages, most_pages, slot_blocks, ring_blocks}
+use Rattle.journal_rows.specs.Layout.{leg_pages, fare_pages, booking_pages, most_pages, slot_blocks}
 
 -- a quarter of the records, and three
 pages_most : (a b c : ℕ) → 4 * (leg_pages a + (fare_pages b + booking_pages c)) ≤ (a + b + c) + 12

@@ -4,7 +4,7 @@ use Rattle.std.specs.Prelude.{ℕ, zero, suc, ◌+◌, ◌-◌, ◌*◌, ◌/◌
 use Rattle.std.proofs.Math.Option.{Option, none, some}
 use Rattle.meaning.specs.Lines.{pick, Leg, Fare}
 use Rattle.meaning.specs.House.{Booking}
-use Rattle.meaning.specs.Calls.{Call, Limits}
+use Rattle.meaning.specs.Calls.{Limits}
 use Rattle.wire.specs.Bytes.{row_of, numbers_in}
 use Rattle.wire.specs.Rows.{encoded, decoded}
 use Rattle.records.specs.Words.{padded, leg_read, fare_read, booking_read}

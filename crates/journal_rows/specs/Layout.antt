@@ -5,7 +5,8 @@ use Rattle.meaning.specs.Lines.{pick, Leg, Fare}
 use Rattle.meaning.specs.House.{Booking, House}
 use Rattle.meaning.specs.Calls.{Call, opens, files, books, pays, cancels, limits_to, ticks, free, price_of, booking, leg_is, garbled, Answer, Limits, good_fields, no_twice, turned, after, answer, new_house}
 use Rattle.meaning.specs.Chip.{Chip}
-use Rattle.meaning.specs.Promise.{GoodLimits, Program, readable, room_for}
+use Rattle.meaning.specs.Promise.{GoodLimits, readable, room_for}
+use Rattle.journal.specs.Programs.{Program}
 use Rattle.meaning.specs.Statements.{Reached}
 use Rattle.journal.specs.Machine.{Machine, ReadsBy}
 use Rattle.journal.specs.Slots.{Turn, Commit, whole_row, AllOf, Rows, journal_program, SlotsHold}

@@ -1,19 +1,19 @@
 -- No chip that holds a house is refused.
-use Rattle.std.proofs.Common.{◌≡◌, ℕ, zero, suc, ◌+◌, ◌<◌, Bool, true, false, ◌⊎◌, List, [], ◌∷◌, map, length, get_or, sym, refl, ap, ◌∙◌, inl, inr, arith}
-use mathlib.Core.Option.{Option, none, some}
+use Rattle.std.proofs.Common.{◌≡◌, ℕ, zero, suc, ◌+◌, ◌<◌, true, false, ◌⊎◌, List, [], ◌∷◌, map, length, get_or, refl, ap, ◌∙◌, inl, inr, arith}
+use mathlib.Core.Option.{some}
 use Rattle.meaning.specs.House.{House}
 use Rattle.meaning.specs.Calls.{Limits, free}
-use Rattle.meaning.specs.Chip.{Page, blank, has, spoilt, Chip}
+use Rattle.meaning.specs.Chip.{Page, has, Chip}
 use Rattle.meaning.specs.Promise.{GoodLimits, room_for}
 use Rattle.journal.specs.Slots.{Commit, commit_of, base, kept_at, ring_page, ring, Bare, SlotsHold}
 use Rattle.journal.specs.Start.{Reading, unread, one_commit, reading, replaying, ready, wants, OpenStill}
-use Rattle.journal_rows.specs.Layout.{house, slot_blocks, ring_blocks, Op, taken_call, checkpoint, checkpoint_page, rows}
+use Rattle.journal_rows.specs.Layout.{house, slot_blocks, ring_blocks, Op, taken_call, checkpoint, rows}
 use Rattle.journal_rows.specs.Bytes.{row, page_bytes}
 use Rattle.journal_house.proofs.Laws.{laws, room_is}
 use Rattle.journal_house.proofs.Stays.{call_fine}
 use Rattle.journal_house.proofs.Number.{by_number}
 use Rattle.journal_house.proofs.Right.{known_chip}
-use Rattle.journal_start.specs.Starting.{Met, NoCommit, NoCheckpoint, IsNoCall, Unfit, MetHouse, AcceptsHouses}
+use Rattle.journal_start.specs.Starting.{NoCommit, NoCheckpoint, IsNoCall, Unfit, MetHouse, AcceptsHouses}
 use Rattle.journal_start.proofs.Meets.{meets_on, PageOf, page_met, LogPage, log_met}
 
 row_at : (os : List Op) (n : ℕ) (o : Op) → n < length os → get_or (map row os) n [] ≡ row (get_or os n o)

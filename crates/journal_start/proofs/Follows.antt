@@ -1,16 +1,15 @@
 -- A start in code that is given the pages of a chip: it has always met what the chip has, it is refused on no chip that holds a house, and when it is ready it is the program's start.
-use Rattle.std.proofs.Common.{◌≡◌, ℕ, ◌+◌, ◌*◌, ◌<◌, Bool, sym, ap, subst}
+use Rattle.std.proofs.Common.{◌≡◌, ◌*◌, ◌<◌, sym, subst}
 use Rattle.meaning.specs.House.{House}
-use Rattle.meaning.specs.Calls as calls
 use Rattle.meaning.specs.Calls.{new_house}
 use Rattle.meaning.specs.Chip.{Page, Chip}
 use Rattle.meaning.specs.Promise.{whole}
-use Rattle.limits.specs.Opening.{InRange, limits_mean}
+use Rattle.limits.specs.Opening.{limits_mean}
 use Rattle.limits.specs.declared.Limits.{Limits}
 use Rattle.store.specs.Whole as store
 use Rattle.store.specs.Whole.{Lent, Sound}
 use Rattle.store.specs.declared.Memory.{Memory}
-use Rattle.calls.specs.Stage.{stage, stage-calls}
+use Rattle.every_call.specs.Stage.{stage, stage_calls}
 use Rattle.journal.specs.Slots.{SlotsHold}
 use Rattle.journal.specs.Start as start
 use Rattle.journal_rows.specs.Layout.{house, slot_blocks, ring_blocks, rows, program}
@@ -40,7 +39,7 @@ pub open_still : (m : Memory) (s : Stage) → Ranges m.limits s → start.OpenSt
 open_still m Unread r = tt
 open_still m (OneCommit o) r = tt
 open_still m (Reading x c n) r = r.more
-open_still m (Replaying x c n) r = subst (λ k. n < 16 * k) (ring_any m.limits whole stage-calls) r.more
+open_still m (Replaying x c n) r = subst (λ k. n < 16 * k) (ring_any m.limits whole stage_calls) r.more
 open_still m (Ready f) r = tt
 
 -- with the page that it asked for it has met what the chip has
@@ -49,7 +48,7 @@ goes_on d m n s t p ok fits lent e at met =
     let v = (accepts_houses (stage m) ok.limits).goes_on d (reading_of (stage m) s (store.house m)) met (open_still m s fits.ranges) in
     let w = subst (λ q. MetHouse (stage m) d (taken (stage m) (reading_of (stage m) s (store.house m)) q)) (sym e) v in
     let y = subst (MetHouse (stage m) d) (sym at.reading) w in
-    subst (λ (l : Limits). MetHouse (limits_mean stage-calls l) d (reading_of (limits_mean stage-calls l) t (store.house n))) (sym lent.limits) y
+    subst (λ (l : Limits). MetHouse (limits_mean stage_calls l) d (reading_of (limits_mean stage_calls l) t (store.house n))) (sym lent.limits) y
 
 -- a chip that holds a house is not refused
 pub not_refused : (d : Chip) (h : House) (m : Memory) (s : Stage) (p : Page) → Sound m → StageFits m s → SlotsHold (house (stage m)) (slot_blocks (stage m)) (ring_blocks (stage m)) (rows (stage m) page_bytes) d h →

@@ -4,9 +4,8 @@ use mathlib.Core.Option.{Option, none, some}
 use Rattle.std.proofs.lemmas.Bool.{cases_lt, ltb-true, ltb-false}
 use Rattle.meaning.specs.Lines.{pick}
 use Rattle.meaning.specs.Chip.{Page, blank, has, spoilt, Chip, is_blank}
-use Rattle.meaning.specs.Promise.{Program}
 use Rattle.journal.specs.Machine.{Machine}
-use Rattle.journal.specs.Slots.{Turn, up, later, Commit, Rows, Laws, replay, scan, acted_page, commit_of, base, kept_at, ring_page, ring, Journal, journal_read, journal_start, journal_program, rows_of, Bare, Stale, Passes, IsInUse, Unused, Body, in_use, unused, Held, SlotsHold}
+use Rattle.journal.specs.Slots.{later, Commit, Rows, Laws, replay, scan, acted_page, commit_of, base, kept_at, ring_page, ring, Journal, journal_read, journal_start, journal_program, rows_of, Stale, Passes, IsInUse, Body, in_use, unused, SlotsHold}
 use Rattle.journal.specs.Start.{Reading, unread, one_commit, reading, replaying, ready, found_so, wants, replays_on, reads_on, chosen, takes, OpenStill}
 use Rattle.journal.proofs.Slots.{bare_none, later_up, later_down, found_end, pages_kept, comes_was, its_seal, checkpoint_read, log_read}
 use Rattle.journal_start.specs.Starting.{chosen_slot, slot_of, checkpoint_so, log_so, MetCheckpoint, MetLog, Met}

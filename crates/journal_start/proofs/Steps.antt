@@ -1,7 +1,7 @@
 -- What one page more makes of a start in code: a stage after the checkpoint, a page of the checkpoint that is refused, and pages of the log.
-use Rattle.std.proofs.Common.{◌≡◌, ℕ, suc, ◌+◌, ◌-◌, ◌*◌, ◌/◌, ◌<◌, ◌≤◌, Bool, true, false, ◌&&◌, eqb, ltb, List, length, Some, None, Option, sym, refl, ap, ◌∙◌, subst, add-one, arith, Bor}
+use Rattle.std.proofs.Common.{◌≡◌, ℕ, suc, ◌+◌, ◌-◌, ◌*◌, ◌/◌, ◌<◌, ◌≤◌, Bool, true, false, eqb, List, length, Option, sym, refl, ap, ◌∙◌, subst, add-one, arith, Bor}
 use mathlib.Core.Option as plain
-use Rattle.std.proofs.lemmas.Bool.{and_parts, both_ways, eqb-true, lt-ltb, le-ltb}
+use Rattle.std.proofs.lemmas.Bool.{and_parts, both_ways, eqb-true, le-ltb}
 use Rattle.meaning.specs.Lines.{pick}
 use Rattle.meaning.specs.House.{House, with_bookings}
 use Rattle.meaning.specs.Calls as calls
@@ -9,7 +9,7 @@ use Rattle.meaning.specs.Calls.{Call, after, new_house, the_booking}
 use Rattle.meaning.specs.Chip.{Page, blank, has, spoilt, is_blank}
 use Rattle.meaning.specs.Promise.{whole}
 use Rattle.meaning.specs.Statements.{NobodyWaits, some_could}
-use Rattle.meaning.proofs.Waits.{could-tells, nobody_waits}
+use Rattle.meaning.proofs.Waits.{could_tells, nobody_waits}
 use Rattle.limits.specs.Opening.{InRange, limits_mean}
 use Rattle.limits.specs.declared.Limits.{Limits}
 use Rattle.store.specs.Whole as store
@@ -17,24 +17,24 @@ use Rattle.store.specs.Whole.{Lent, at_tick}
 use Rattle.store.specs.declared.Memory.{Memory}
 use Rattle.seating.specs.Serving.{First, NoneBelow}
 use Rattle.seating.proofs.Turns.{none_served, served_idle}
-use Rattle.calls.specs.Stage.{Idle, stage, stage-calls}
+use Rattle.every_call.specs.Stage.{Idle, stage, stage_calls}
 use Rattle.flash.specs.declared.PageRead.{PageRead}
 use Rattle.flash.specs.declared.PageRead.TheVariants as read
 use Rattle.flash.specs.Pages.{page_told}
 use Rattle.journal.specs.declared.Turn.TheVariants as turn
 use Rattle.journal.specs.Slots.{later, Commit, acted_page, commit_of}
 use Rattle.journal.specs.Start as start
-use Rattle.journal_rows.specs.Layout.{Op, taken_call, Good, Head, head, house, opened, pages, most_pages, slot_blocks, ring_blocks, rows, op_done}
-use Rattle.journal_rows.specs.Bytes.{row, unrow, page_bytes}
+use Rattle.journal_rows.specs.Layout.{taken_call, Good, Head, house, opened, pages, most_pages, slot_blocks, ring_blocks, rows}
+use Rattle.journal_rows.specs.Bytes.{unrow, page_bytes}
 use Rattle.journal_rows.proofs.ReadBack.{reads_back}
 use Rattle.journal_house.proofs.Laws.{room_is}
 use Rattle.journal_load.specs.declared.CommitRecord.{CommitRecord}
 use Rattle.journal_load.specs.Pages.{commit_told, head_of, Within, Loads, NoPage}
 use Rattle.journal_start.specs.declared.Found.{Found}
 use Rattle.journal_start.specs.declared.Stage.{Stage}
-use Rattle.journal_start.specs.declared.Stage.TheVariants.{Unread, OneCommit, Reading, Replaying, Ready}
-use Rattle.journal_start.specs.Starting.{NoCheckpoint, IsNoCall, Unfit, chosen_slot}
-use Rattle.journal_start.specs.Stages.{commit_is, ends, journal_is, reading_of, ring_pages, InRing, Ranges, Holds, Past, StageFits, taken, checkpoint_on, log_on, found_log, At}
+use Rattle.journal_start.specs.declared.Stage.TheVariants.{OneCommit, Reading, Replaying, Ready}
+use Rattle.journal_start.specs.Starting.{NoCheckpoint, chosen_slot}
+use Rattle.journal_start.specs.Stages.{ends, journal_is, reading_of, ring_pages, InRing, Ranges, Past, taken, checkpoint_on, log_on, found_log, At}
 
 -- how many pages the ring has, whatever calls can be done
 pub ring_any : (l : Limits) (a b : ℕ → Bool) → ring_blocks (limits_mean a l) ≡ ring_blocks (limits_mean b l)
@@ -69,7 +69,7 @@ pub none_waits : (l : calls.Limits) (h : House) (k : ℕ) → Good l h → First
 unfolding NobodyWaits
 none_waits l h k g f =
     let both = and_parts (eqb (the_booking h k).stands 0) _ f.can in
-    both_ways _ (could-tells h h.bookings (nobody_waits l h g.reached) k (eqb-true _ _ both.0)) both.1
+    both_ways _ (could_tells h h.bookings (nobody_waits l h g.reached) k (eqb-true _ _ both.0)) both.1
 
 -- what a page says, done
 pub loads_acts : (l : calls.Limits) (h g : House) (p : Page) (bs : List ℕ) → p ≡ has bs → Loads bs h g → acted_page (house l) (rows l page_bytes) h p ≡ g
@@ -87,7 +87,7 @@ pub past_at : (m n : Memory) (k : Limits) (t : Stage) (x : Bool) (c : CommitReco
 past_at m n k t x c i v e lent q r p idle z =
     let f : k ≡ m.limits = e ∙ lent.limits in
     record {
-      reading = subst (λ (o : Limits). reading_of (limits_mean stage-calls o) t (store.house n) ≡ log_on (limits_mean stage-calls o) x c i (store.house n)) f (q stage-calls (store.house n)) ∙ z;
+      reading = subst (λ (o : Limits). reading_of (limits_mean stage_calls o) t (store.house n) ≡ log_on (limits_mean stage_calls o) x c i (store.house n)) f (q stage_calls (store.house n)) ∙ z;
       fits = record { ranges = subst (λ (o : Limits). Ranges o t) e r; holds = p n idle };
     }
 
@@ -119,7 +119,7 @@ pub never_at : (m : Memory) (k : Limits) (o q : Option CommitRecord) (p : Page) 
     At m m (Ready never) (taken (stage m) (reading_of (stage m) (OneCommit o) (store.house m)) p)
 unfolding some_could
 never_at m k o q p e z f w =
-    let g : commit_told q ≡ commit_of (house (stage m)) (rows (stage m) page_bytes) p = subst (λ (l : Limits). commit_told q ≡ commit_of (house (limits_mean stage-calls l)) (rows (limits_mean stage-calls l) page_bytes) p) e (f stage-calls) in
+    let g : commit_told q ≡ commit_of (house (stage m)) (rows (stage m) page_bytes) p = subst (λ (l : Limits). commit_told q ≡ commit_of (house (limits_mean stage_calls l)) (rows (limits_mean stage_calls l) page_bytes) p) e (f stage_calls) in
     let r = (room_is (limits_mean whole m.limits)).1 in
     record {
       reading = none_chosen (stage m) (commit_told o) (commit_told q) w (store.house m) z ∙ ap (start.chosen (house (stage m)) (slot_blocks (stage m)) (ring_blocks (stage m)) (rows (stage m) page_bytes) (commit_told o)) g;

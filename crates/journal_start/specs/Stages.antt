@@ -10,17 +10,17 @@ use Rattle.limits.specs.Opening.{limits_mean}
 use Rattle.limits.specs.declared.Limits.{Limits}
 use Rattle.store.specs.Whole as store
 use Rattle.store.specs.declared.Memory.{Memory}
-use Rattle.calls.specs.Stage.{Idle, stage}
+use Rattle.every_call.specs.Stage.{Idle, stage}
 use Rattle.flash.specs.declared.PageRead.{PageRead}
 use Rattle.flash.specs.declared.PageRead.TheVariants as read
 use Rattle.journal.specs.Codes.{turn_of}
 use Rattle.journal.specs.Slots.{Commit, Journal, commit_of}
 use Rattle.journal.specs.Start as start
-use Rattle.journal_rows.specs.Layout.{Head, house, slot_blocks, ring_blocks, most_pages, opened, pages, rows}
+use Rattle.journal_rows.specs.Layout.{Head, house, slot_blocks, ring_blocks, most_pages, pages, rows}
 use Rattle.journal_rows.specs.Bytes.{page_bytes}
 use Rattle.journal_load.specs.declared.CommitRecord.{CommitRecord}
 use Rattle.journal_load.specs.Pages.{commit_told, head_of, Within, IsWithin, Loaded}
-use Rattle.journal_start.specs.Starting.{NoCommit, Unfit, chosen_slot}
+use Rattle.journal_start.specs.Starting.{NoCommit, Unfit}
 use Rattle.journal_start.specs.declared.Found.{Found}
 use Rattle.journal_start.specs.declared.InUse.{InUse}
 use Rattle.journal_start.specs.declared.Stage.{Stage}

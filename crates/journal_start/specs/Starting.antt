@@ -10,7 +10,7 @@ use Rattle.meaning.specs.Promise.{GoodLimits}
 use Rattle.journal.specs.Machine.{Machine}
 use Rattle.journal.specs.Slots.{later, Commit, Rows, replay, scan, acted_page, commit_of, base, kept_at, ring, Journal, journal_program, SlotsHold}
 use Rattle.journal.specs.Start.{Reading, unread, one_commit, reading, replaying, ready, wants, takes, OpenStill}
-use Rattle.journal_rows.specs.Layout.{house, slot_blocks, ring_blocks, Op, taken_call, Fine, Good, Head, head, pages, checkpoint_page, rows, program}
+use Rattle.journal_rows.specs.Layout.{house, slot_blocks, ring_blocks, taken_call, Fine, Good, Head, head, pages, checkpoint_page, rows, program}
 use Rattle.journal_rows.specs.Bytes.{row, page_bytes}
 
 -- which of two slots is in use, by their commit records, and its commit record: the one there is, or of two that of the later turn

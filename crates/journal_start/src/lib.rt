@@ -10,13 +10,13 @@ ghost use Rattle.meaning.specs.House.{House};
 ghost use Rattle.limits.specs.Opening.{InRange, limits_mean};
 ghost use Rattle.store.specs.Whole.{Lent, Sound, house};
 ghost use Rattle.flash.specs.Pages.{page_told};
-ghost use Rattle.calls.specs.Stage.{stage};
+ghost use Rattle.every_call.specs.Stage.{stage};
 ghost use Rattle.journal_rows.specs.Layout.{opened, pages};
 ghost use Rattle.journal_load.specs.Pages.{commit_told, head_of, Within};
 ghost use Rattle.journal_start.specs.Stages.{At, CommitGot, Next, Past, Ranges, SlotFrom, StageFits, Taken, WholePage, checkpoint_on, ends, found_log, journal_is, log_on, reading_of, ring_pages, slot_told, wanted};
 ghost use Rattle.journal_start.specs.Starting.{AcceptsHouses, chosen_slot};
 
-use calls::answer_row;
+use every_call::answer_row;
 use flash::PageRead;
 use journal::{Turn, goes_round};
 use journal_load::{CommitRecord, call_in, load_checkpoint, read_commit};

@@ -1,5 +1,5 @@
 -- What a call that changed the house makes of the journal.
-use Rattle.std.proofs.Common.{◌≡◌, ℕ, suc, ◌+◌, ◌*◌, Bool, true, false, not, sym, refl, ap, ◌∙◌, ap₂, add-one}
+use Rattle.std.proofs.Common.{◌≡◌, ℕ, ◌+◌, ◌*◌, Bool, true, false, not, sym, refl, ap, ◌∙◌, ap₂, add-one}
 use Rattle.meaning.specs.Lines.{pick}
 use Rattle.meaning.specs.House.{House}
 use Rattle.meaning.specs.Calls as meaning
@@ -11,7 +11,6 @@ use Rattle.journal.specs.Codes.{turn_of}
 use Rattle.journal.specs.Slots as slots
 use Rattle.journal.specs.Slots.{around, up, with_page, with_checkpoint}
 use Rattle.journal.specs.Plan.{logging, erasing, opening}
-use Rattle.journal.specs.Plan as plans
 use Rattle.journal_rows.specs.Layout.{house, rows, slot_blocks, ring_blocks}
 use Rattle.journal_rows.specs.Bytes.{page_bytes}
 use Rattle.journal_steps.specs.Steps.{Advanced, chip_limits, journal_of, log_has_room, log_place, work_of}

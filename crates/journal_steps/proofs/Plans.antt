@@ -1,11 +1,11 @@
 -- What is owed, act by act, for the house's journal.
-use Rattle.std.proofs.Common.{◌≡◌, ℕ, suc, ◌+◌, ◌-◌, ◌*◌, ◌/◌, ◌%◌, ◌<◌, ◌≤◌, Bool, true, false, not, ◌&&◌, eqb, ltb, List, [], ◌∷◌, ◌++◌, map, length, get_or, drop, sym, refl, ap, ◌∙◌, subst, add-one, arith, drop_of_length-le, drop-cons}
+use Rattle.std.proofs.Common.{◌≡◌, ℕ, suc, ◌+◌, ◌*◌, ◌/◌, ◌<◌, ◌≤◌, Bool, true, false, ltb, List, [], ◌∷◌, ◌++◌, length, get_or, sym, refl, ap, ◌∙◌, add-one, arith}
 use Rattle.std.proofs.lemmas.List.{get_or-map, length-map}
 use Rattle.std.proofs.lemmas.Bool.{lt-ltb, le-ltb}
 use Rattle.meaning.specs.Lines.{pick}
 use Rattle.meaning.specs.House.{House}
 use Rattle.meaning.specs.Calls.{Call, Answer, Limits, garbled}
-use Rattle.meaning.specs.Chip.{Act, write, wipe, say}
+use Rattle.journal.specs.Acts.{Act, write, wipe, say}
 use Rattle.journal.specs.Slots as slots
 use Rattle.journal.specs.Slots.{first, base, kept_at, next_block, rows_of, put, puts}
 use Rattle.journal.specs.Plan.{plan, resting, answering, logging, logging_now, opening, opening_more, erasing, filling, filling_now, begins_block, fill, commit_write, log_page}

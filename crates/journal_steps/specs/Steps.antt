@@ -4,8 +4,8 @@ use Rattle.meaning.specs.Lines.{pick}
 use Rattle.meaning.specs.House as houses
 use Rattle.meaning.specs.Calls as meaning
 use Rattle.meaning.specs.Calls.{Call, Answer}
-use Rattle.meaning.specs.Chip as chip
-use Rattle.meaning.specs.Chip.{write, wipe, say}
+use Rattle.journal.specs.Acts as chip
+use Rattle.journal.specs.Acts.{write, wipe, say}
 use Rattle.meaning.specs.Promise.{room_for, whole}
 use Rattle.limits.specs.Opening.{limits_mean}
 use Rattle.limits.specs.declared.Limits.{Limits}

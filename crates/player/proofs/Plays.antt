@@ -1,11 +1,13 @@
 -- Calls one after the other, on a chip; and the calls of a text, line by line.
-use Rattle.std.proofs.Common.{◌≡◌, ℕ, zero, suc, ◌+◌, ◌-◌, ◌<◌, ◌≤◌, min, Bool, true, false, eqb, List, [], ◌∷◌, ◌++◌, length, take, drop, sym, refl, ap, ◌∙◌, subst, ap₂, inl, inr, append_assoc, append-nil, arith, length-append, length-drop, length-take}
+use Rattle.std.proofs.Common.{◌≡◌, ℕ, zero, suc, ◌+◌, ◌-◌, ◌<◌, ◌≤◌, min, Bool, true, false, eqb, List, [], ◌∷◌, ◌++◌, length, take, sym, refl, ap, ◌∙◌, subst, ap₂, inl, append_assoc, append-nil, arith, length-drop, length-take}
 use Rattle.std.proofs.lemmas.Bool.{and_from, and_parts}
 use Rattle.meaning.specs.Lines.{pick}
 use Rattle.meaning.specs.House.{House}
 use Rattle.meaning.specs.Calls.{Answer, Call}
-use Rattle.meaning.specs.Chip.{Chip, Act, write, wipe, say, done, all_done, Torn, LeftAfter, said}
-use Rattle.meaning.specs.Promise.{acts, all_readable, readable}
+use Rattle.meaning.specs.Chip.{Chip}
+use Rattle.journal.specs.Acts.{Act, write, wipe, say, done, all_done, Torn, LeftAfter, said}
+use Rattle.meaning.specs.Promise.{all_readable, readable}
+use Rattle.journal.specs.Programs.{acts}
 use Rattle.limits.specs.Opening.{limits_mean}
 use Rattle.limits.specs.declared.Limits.{Limits}
 use Rattle.scan.specs.Words.{front, line_of, past_line}
@@ -13,7 +15,7 @@ use Rattle.scan.specs.declared.Kind.TheVariants as kind
 use Rattle.store.specs.Whole.{house}
 use Rattle.store.specs.declared.Memory.{Memory}
 use Rattle.text.specs.CallLines.{line_call}
-use Rattle.text.proofs.Fits.{line-readable}
+use Rattle.text.proofs.Fits.{line_readable}
 use Rattle.journal.proofs.Machine.{said-++}
 use Rattle.journal.proofs.Runs.{all-done-++}
 use Rattle.journal_rows.specs.Layout.{program}
@@ -23,12 +25,12 @@ use Rattle.journal_steps.specs.declared.Journal.{Journal}
 use Rattle.session.specs.declared.Session.{Session}
 use Rattle.driver.specs.Played.{CallPlayed, Finished, Progress, Stopped}
 use Rattle.driver.proofs.Runs.{left_later, take_later}
-use Rattle.calls.specs.Stage.{stage-calls}
+use Rattle.every_call.specs.Stage.{stage_calls}
 use Rattle.player.specs.Texts.{CutOff, calls_in, passed_over}
 
 -- the acts that the program does for some calls, from a journal and a house on
 abbrev pub owes : Limits → Journal → House → List Call → List (Act Answer)
-owes l j h cs = acts (program page_bytes (limits_mean stage-calls l)) (journal_of (limits_mean stage-calls l) j h) cs
+owes l j h cs = acts (program page_bytes (limits_mean stage_calls l)) (journal_of (limits_mean stage_calls l) j h) cs
 
 -- power that fails in some acts fails in them and those behind
 left_front : (e f : Chip) (xs ys : List (Act Answer)) (k : ℕ) → k < length xs → LeftAfter e xs k f → LeftAfter e (xs ++ ys) k f
@@ -95,7 +97,7 @@ module _ (d : Chip) (ts : List Answer) (before : List (Act Answer)) where
   unfolding acts
   call_more l s t m n c cs e f us vs q p k =
       subst (λ (u : Limits). Progress d ts before (owes u t.journal (house n) cs) f vs) q
-      (subst (λ w. Progress d ts before (acts (program page_bytes (limits_mean stage-calls m.limits)) w cs) f vs) (sym k.next)
+      (subst (λ w. Progress d ts before (acts (program page_bytes (limits_mean stage_calls m.limits)) w cs) f vs) (sym k.next)
       (finished_more _ _ e f us vs (subst (λ (u : Limits). Progress d ts before (owes u s.journal (house m) (c ∷ cs)) e us) (sym q) p) k.acts))
 
   -- and where it failed
@@ -166,4 +168,4 @@ text_readable (suc n) (b ∷ bs) h = readable-++ (pick (passed_over (line_of (b 
 
     go : (t : Bool) → all_readable (pick t [] (line_call (line_of (b ∷ bs)) ∷ [])) ≡ true
     go true = refl
-    go false = and_from _ _ (line-readable (line_of (b ∷ bs)) short) refl
+    go false = and_from _ _ (line_readable (line_of (b ∷ bs)) short) refl

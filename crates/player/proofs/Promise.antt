@@ -1,16 +1,18 @@
 -- The main promise of a run, from what was done on the chip.
-use Rattle.std.proofs.Common.{◌≡◌, ℕ, zero, suc, ◌+◌, ◌<◌, ◌≤◌, Bool, true, false, ◌⊎◌, List, [], ◌∷◌, ◌++◌, length, take, sym, refl, ap, ◌∙◌, subst, ap₂, inl, inr, append-nil, arith}
+use Rattle.std.proofs.Common.{◌≡◌, ℕ, zero, suc, ◌+◌, ◌≤◌, true, ◌⊎◌, List, [], ◌∷◌, ◌++◌, length, take, sym, refl, ap, ◌∙◌, subst, inl, inr, append-nil, arith}
 use Rattle.std.proofs.lemmas.List.{take_all}
 use Rattle.meaning.specs.House.{House}
 use Rattle.meaning.specs.Calls.{Answer, Call, Limits, after, answers, ran, new_house}
-use Rattle.meaning.specs.Chip.{Chip, Act, write, wipe, say, all_done, LeftAfter, said}
-use Rattle.meaning.specs.Promise.{GoodLimits, acts, all_readable}
+use Rattle.meaning.specs.Chip.{Chip}
+use Rattle.journal.specs.Acts.{Act, write, wipe, say, all_done, LeftAfter, said}
+use Rattle.meaning.specs.Promise.{GoodLimits, all_readable}
+use Rattle.journal.specs.Programs.{acts}
 use Rattle.journal.specs.Slots as slots
 use Rattle.journal_rows.specs.Layout.{Reads, house, program}
 use Rattle.journal_rows.specs.Bytes.{page_bytes}
 use Rattle.journal_house.proofs.Right.{right_by_reading, same_answers, same_ran, same_readable}
 use Rattle.store.specs.declared.Memory.{Memory}
-use Rattle.calls.specs.Stage.{stage}
+use Rattle.every_call.specs.Stage.{stage}
 use Rattle.session.specs.Acts.{state}
 use Rattle.session.specs.declared.Session.{Session}
 use Rattle.driver.specs.Played.{Finished, Started}

@@ -1,14 +1,16 @@
 -- A file of calls played on a device, and what is promised of it. Definitions only: nothing is assumed or proved here.
-use Rattle.std.specs.Prelude.{◌≡◌, ℕ, zero, suc, ◌<◌, Bool, true, false, ◌⊎◌, List, [], ◌∷◌, ◌++◌, length, take, ◌==◌}
+use Rattle.std.specs.Prelude.{◌≡◌, ℕ, zero, suc, Bool, true, false, ◌⊎◌, List, [], ◌∷◌, ◌++◌, length, take, ◌==◌}
 use Rattle.meaning.specs.Lines.{pick}
 use Rattle.meaning.specs.Calls.{Answer, Call, Limits, answers, ran, new_house}
-use Rattle.meaning.specs.Chip.{Chip, Act, LeftAfter, said, careful}
-use Rattle.meaning.specs.Promise.{acts, all_readable, room_for}
+use Rattle.meaning.specs.Chip.{Chip}
+use Rattle.journal.specs.Acts.{Act, LeftAfter, said}
+use Rattle.meaning.specs.Promise.{all_readable}
+use Rattle.journal.specs.Programs.{acts}
 use Rattle.scan.specs.Words.{line_of, past_line}
-use Rattle.store.specs.Whole.{house}
 use Rattle.store.specs.declared.Memory.{Memory}
 use Rattle.text.specs.CallLines.{line_call}
-use Rattle.calls.specs.Stage.{Promised, stage}
+use Rattle.calls.specs.Stage.{Promised}
+use Rattle.every_call.specs.Stage.{stage}
 use Rattle.journal_rows.specs.Layout.{Reads, program}
 use Rattle.journal_rows.specs.Bytes.{page_bytes}
 use Rattle.session.specs.Acts.{state}

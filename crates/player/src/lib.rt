@@ -9,7 +9,7 @@ ghost use Rattle.std.specs.Prelude.{◌≡◌, ◌<◌, ◌≤◌, true, length}
 ghost use Rattle.meaning.specs.Calls.{new_house};
 ghost use Rattle.meaning.specs.Promise.{all_readable, room_for};
 ghost use Rattle.store.specs.Whole.{Lent, Sound, house};
-ghost use Rattle.calls.specs.Stage.{stage};
+ghost use Rattle.every_call.specs.Stage.{stage};
 ghost use Rattle.journal_steps.specs.Steps.{chip_limits};
 ghost use Rattle.session.specs.Acts.{Ready, at_rest};
 ghost use Rattle.text.specs.CallLines.{line_call};

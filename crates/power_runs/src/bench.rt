@@ -3,12 +3,12 @@
 ghost use Rattle.std.specs.Prelude.{◌≡◌, ◌≤◌};
 ghost use Rattle.meaning.specs.Promise.{room_for};
 ghost use Rattle.store.specs.Whole.{Sound};
-ghost use Rattle.calls.specs.Stage.{Idle};
+ghost use Rattle.every_call.specs.Stage.{Idle};
 ghost use Rattle.journal_steps.specs.Steps.{chip_limits};
 
 use anyhow::anyhow;
-use calls::answer_row;
 use chips::{MemoryChip, Said};
+use every_call::answer_row;
 use flash::Power;
 use limits::{Limits, Sizes};
 use player::{Ending, run};

@@ -2,7 +2,7 @@
 use Rattle.std.proofs.Common.{◌≡◌, ℕ, ◌<◌, List, length, IfOk, Ok, Err, string_bytes, Result, String, sym, refl, ap, ◌∙◌, arith}
 use Rattle.meaning.specs.Lines.{Leg, leg}
 use Rattle.meaning.specs.House.{House}
-use Rattle.meaning.specs.Calls.{Answer, each_class, leg_is, sold}
+use Rattle.meaning.specs.Calls.{each_class, leg_is, sold}
 use Rattle.meaning.specs.Promise.{whole}
 use Rattle.limits.specs.declared.Limits.{Limits}
 use Rattle.protocol.specs.Forms.{answer_of}

@@ -19,6 +19,7 @@ use finding::{commit_limits, fits};
 use flash::Power;
 use limits::Limits;
 use lines::leg_line;
+use std::process::ExitCode;
 use std::{env, fmt, fs, io};
 use store::{Memory, open};
 
@@ -27,10 +28,6 @@ const BLOCK: usize = 8_208;
 
 // The most blocks that are looked at: more than any house asks for that the program can serve.
 const MOST_BLOCKS: usize = 65_536;
-
-// The program ends with status 1.
-#[derive(Clone, Copy)]
-struct Failed;
 
 // What went wrong.
 #[derive(Clone, Copy)]
@@ -163,16 +160,16 @@ fn words(rt: &HostRuntime) -> io::Result<Vec<String>> {
     Ok(words)
 }
 
-fn main(rt: HostRuntime) -> Result<(), Failed> {
+fn main(rt: HostRuntime) -> ExitCode {
     let Ok(words) = words(&rt) else {
         let _ = eprintln!(rt; "sales: can't read the words of the call");
-        return Err(Failed);
+        return ExitCode::FAILURE;
     };
     match perform(&rt, words.as_slice()) {
-        Ok(()) => Ok(()),
+        Ok(()) => ExitCode::SUCCESS,
         Err(trouble) => {
             let _ = eprintln!(rt; "sales: {trouble}");
-            Err(Failed)
+            ExitCode::FAILURE
         }
     }
 }

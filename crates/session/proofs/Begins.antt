@@ -1,13 +1,11 @@
 -- What a call that is begun leaves: the program's next state, and the acts that the program does for it.
-use Rattle.std.proofs.Common.{◌≡◌, ℕ, ◌+◌, ◌<◌, ◌≤◌, Bool, true, false, not, ◌&&◌, eqb, List, [], ◌∷◌, ◌++◌, length, take, sym, refl, ap, ◌∙◌, subst, ap₂, arith}
+use Rattle.std.proofs.Common.{◌≡◌, ℕ, ◌≤◌, Bool, true, false, not, eqb, List, [], ◌∷◌, ◌++◌, length, sym, ap, ◌∙◌, subst, ap₂, arith}
 use Rattle.std.proofs.lemmas.Bool.{and_parts, leb-true}
 use Rattle.meaning.specs.Lines.{pick}
 use Rattle.meaning.specs.House.{House}
 use Rattle.meaning.specs.Calls as meaning
 use Rattle.meaning.specs.Calls.{Call, Answer, after, answer, call_number, good_fields, turned}
-use Rattle.meaning.specs.Chip.{Act, say}
-use Rattle.limits.specs.Opening.{limits_mean}
-use Rattle.limits.specs.declared.Limits.{Limits}
+use Rattle.journal.specs.Acts.{say}
 use Rattle.wire.specs.Bytes.{Bytes}
 use Rattle.wire.specs.Rows.{encoded, decoded}
 use Rattle.wire.proofs.Back.{bytes_come_back, calls_fit}
@@ -16,15 +14,14 @@ use Rattle.journal.specs.Slots.{has_room, with_page, with_checkpoint, journal_ne
 use Rattle.journal.specs.Plan as plans
 use Rattle.journal.specs.Plan.{plan, begins, logging, erasing, opening, answering}
 use Rattle.journal.proofs.Plan.{planned}
-use Rattle.journal_rows.specs.Layout.{house, rows, taken_call, slot_blocks, ring_blocks, changes, is_change, head, pages, program}
+use Rattle.journal_rows.specs.Layout.{house, rows, taken_call, slot_blocks, ring_blocks, changes, is_change, program}
 use Rattle.journal_rows.specs.Bytes.{page_bytes}
 use Rattle.journal_rows.proofs.ReadBack.{call_short}
 use Rattle.journal_house.proofs.Stays.{call_fine, unchanged_same}
-use Rattle.journal_steps.specs.Steps.{Advanced, journal_of, owed, work_of}
+use Rattle.journal_steps.specs.Steps.{journal_of, owed, work_of}
 use Rattle.journal_steps.specs.declared.Journal.{Journal}
 use Rattle.journal_steps.specs.declared.Work.{Work}
 use Rattle.journal_steps.specs.declared.Work.TheVariants as work
-use Rattle.calls.specs.Stage.{stage-calls}
 use Rattle.session.proofs.Changes.{change_number}
 
 -- a call that changes the house is just its bytes, and short

@@ -1,6 +1,5 @@
 -- How many records memory holds, and how many pages their checkpoint has.
-use Rattle.std.proofs.Common.{◌≡◌, ℕ, ◌+◌, ◌/◌, ◌<◌, ◌≤◌, length, ap, ◌∙◌, ap₂, arith}
-use Rattle.meaning.specs.House.{House}
+use Rattle.std.proofs.Common.{ℕ, ◌+◌, ◌<◌, ◌≤◌, length, arith}
 use Rattle.store.specs.Whole.{Sound, house}
 use Rattle.store.specs.declared.Memory.{Memory}
 use Rattle.store.proofs.Lists.{length_legs, length_fares, length_bookings}

@@ -1,8 +1,7 @@
 -- One step: the first of the acts that are owed, and what is left.
-use Rattle.std.proofs.Common.{◌≡◌, ℕ, ◌-◌, ◌*◌, ◌<◌, ◌≤◌, List, [], ◌∷◌, ◌++◌, length, take, drop, sym, refl, ap, ◌∙◌, subst, ap₂, arith, length-take}
+use Rattle.std.proofs.Common.{◌≡◌, ℕ, ◌≤◌, List, ◌++◌, length, sym, refl, ap, ◌∙◌, subst, arith}
 use Rattle.meaning.specs.Calls as meaning
-use Rattle.meaning.specs.Chip as chip
-use Rattle.meaning.specs.Promise.{room_for}
+use Rattle.journal.specs.Acts as chip
 use Rattle.limits.specs.declared.Limits.{Limits}
 use Rattle.protocol.specs.Forms.{answer_of}
 use Rattle.protocol.specs.declared.Answer.{Answer}
@@ -10,11 +9,10 @@ use Rattle.protocol.specs.declared.Answer.TheVariants as answers
 use Rattle.store.specs.Whole.{house}
 use Rattle.store.specs.declared.Memory.{Memory}
 use Rattle.wire_answers.specs.Answers.{listed}
-use Rattle.calls.specs.Stage.{stage, stage-calls}
+use Rattle.every_call.specs.Stage.{stage, stage_calls}
 use Rattle.journal_rows.specs.Layout.{head, pages}
-use Rattle.journal_steps.specs.Steps.{ActFits, Gives, WorkFits, acts_of, chip_limits, owed}
+use Rattle.journal_steps.specs.Steps.{ActFits, Gives, WorkFits, acts_of}
 use Rattle.journal_steps.specs.declared.Act.{Act}
-use Rattle.journal_steps.specs.declared.Act.TheVariants as act
 use Rattle.journal_steps.specs.declared.Work.{Work}
 use Rattle.session.specs.Acts.{LentBytes, OnChip, OnlyAtRest, Ready, Stepped, answer_kept, call_kept, effects, pending}
 use Rattle.session.specs.declared.Session.{Session}
@@ -43,7 +41,7 @@ module _ (s : Session) (m : Memory) (r : Ready s m) (l : Limits) (n : ℕ) (x : 
   work_in = subst (λ (i : ℕ). WorkFits m.limits i v) many (subst (λ (u : Limits). WorkFits u n v) here left)
 
   owes : pending s m ≡ acts_of (stage m) s.journal (house m) (call_kept s) (answer_kept s) x ++ pending (with_work s v) m
-  owes = subst (λ (u : Limits). Gives u s.journal n s.work x v) here gives stage-calls (house m) (call_kept s) (answer_kept s) (sym many)
+  owes = subst (λ (u : Limits). Gives u s.journal n s.work x v) here gives stage_calls (house m) (call_kept s) (answer_kept s) (sym many)
 
   pub stepped : (page page' out out' : List ℕ) (e : Effect) → acts_of (stage m) s.journal (house m) (call_kept s) (answer_kept s) x ≡ effects (answer_kept s) page' e →
       LentBytes (answer_kept s) page page' out out' e → OnChip m.limits e → OnlyAtRest s e → Stepped s (with_work s v) m page page' out out' e

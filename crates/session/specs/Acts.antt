@@ -2,7 +2,7 @@
 use Rattle.std.specs.Prelude.{◌≡◌, ℕ, ◌*◌, ◌<◌, ◌≤◌, Bool, true, false, List, [], ◌∷◌, ◌++◌, length, take}
 use Rattle.meaning.specs.Calls as meaning
 use Rattle.meaning.specs.House.{House}
-use Rattle.meaning.specs.Chip.{Act, write, wipe, say}
+use Rattle.journal.specs.Acts.{Act, write, wipe, say}
 use Rattle.meaning.specs.Promise.{room_for}
 use Rattle.limits.specs.declared.Limits.{Limits}
 use Rattle.protocol.specs.Forms.{answer_of}
@@ -12,7 +12,7 @@ use Rattle.store.specs.declared.Memory.{Memory}
 use Rattle.wire.specs.Bytes.{in_front}
 use Rattle.wire.specs.Rows.{encoded, decoded}
 use Rattle.wire_answers.specs.Answers.{answer_bytes}
-use Rattle.calls.specs.Stage.{Idle, stage}
+use Rattle.every_call.specs.Stage.{Idle, stage}
 use Rattle.journal.specs.Slots as slots
 use Rattle.journal_rows.specs.Layout as layout
 use Rattle.journal_rows.specs.Layout.{changes, head, pages, program}

@@ -14,13 +14,13 @@ ghost use Rattle.protocol.specs.Forms.{answer_of};
 ghost use Rattle.store.specs.Whole.{Sound, house};
 ghost use Rattle.wire.specs.Bytes.{Bytes};
 ghost use Rattle.wire.specs.Rows.{decoded};
-ghost use Rattle.calls.specs.Stage.{stage};
+ghost use Rattle.every_call.specs.Stage.{stage};
 ghost use Rattle.journal_rows.specs.Layout.{changes, head, most_pages, pages};
 ghost use Rattle.journal_steps.specs.Steps.{Fits, chip_limits};
 ghost use Rattle.session.specs.Opening.{NeverThree, memory_fits, opening_place};
 ghost use Rattle.session.specs.Acts.{Begun, Changed, Ready, Stepped, Woken, at_rest};
 
-use calls::answer_row;
+use every_call::answer_row;
 use journal_fill::{fill_call, fill_checkpoint, fill_commit};
 use journal_rows::checkpoint_pages;
 use journal_steps::{Act, Journal, Work};

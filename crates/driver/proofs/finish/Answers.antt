@@ -1,7 +1,5 @@
 -- Act by act, until nothing is owed or power fails.
-use Rattle.std.proofs.Common.{◌≡◌, ℕ, ◌≤◌, true, false, sym, refl, ◌∙◌, subst, arith}
-use Rattle.session.specs.Acts.{pending}
-use Rattle.driver.specs.Played.{OneAct}
+use Rattle.std.proofs.Common.{◌≡◌, ℕ, sym, refl, ◌∙◌, arith}
 use Rattle.driver.proofs.Runs.{none_done, one_more, stops, all_of, rest_owes}
 use Rattle.driver.proofs.finish.Goals as goal
 

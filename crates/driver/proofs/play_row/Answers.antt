@@ -1,5 +1,5 @@
 -- A call is begun, and what it owes is done.
-use Rattle.std.proofs.Common.{◌≡◌, ℕ, ◌≤◌, true, false, sym, refl, ap, ◌∙◌, subst, arith}
+use Rattle.std.proofs.Common.{◌≤◌, sym, subst}
 use Rattle.std.proofs.lemmas.Bool.{both_ways}
 use Rattle.limits.specs.declared.Limits.{Limits}
 use Rattle.meaning.specs.Promise.{room_for}

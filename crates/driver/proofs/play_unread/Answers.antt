@@ -1,9 +1,5 @@
 -- What can't be read is refused.
-use Rattle.std.proofs.Common.{◌≡◌, ℕ, ◌≤◌, true, false, sym, refl, ap, ◌∙◌, subst, arith}
 use Rattle.std.proofs.lemmas.Bool.{both_ways}
-use Rattle.limits.specs.declared.Limits.{Limits}
-use Rattle.meaning.specs.Promise.{room_for}
-use Rattle.journal_steps.specs.Steps.{chip_limits}
 use Rattle.session.specs.Acts.{at_rest}
 use Rattle.driver.proofs.Runs.{played}
 use Rattle.driver.proofs.play_unread.Goals as goal

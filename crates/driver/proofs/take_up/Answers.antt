@@ -1,5 +1,5 @@
 -- Page after page, as the definition of a start takes them.
-use Rattle.std.proofs.Common.{◌≡◌, ℕ, ◌≤◌, sym, refl, ap, ◌∙◌, subst}
+use Rattle.std.proofs.Common.{◌≤◌, sym, ◌∙◌, subst}
 use Rattle.meaning.specs.Promise.{room_for, whole}
 use Rattle.limits.specs.declared.Limits.{Limits}
 use Rattle.store.specs.Whole.{house}

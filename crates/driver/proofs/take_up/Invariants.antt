@@ -1,6 +1,5 @@
-use Rattle.std.proofs.Common.{◌≡◌}
 use Rattle.store.specs.Whole.{Lent, Sound, house}
-use Rattle.calls.specs.Stage.{stage}
+use Rattle.every_call.specs.Stage.{stage}
 use Rattle.journal_start.specs.Stages.{StageFits, reading_of}
 use Rattle.journal_start.proofs.Follows.{Follows}
 use Rattle.driver.proofs.Starts.{unread_pages}

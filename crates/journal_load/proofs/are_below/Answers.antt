@@ -6,8 +6,8 @@ use Rattle.journal_load.proofs.Cuts.{all_at, all_push, all_none}
 use Rattle.journal_load.proofs.Fits.{never}
 use Rattle.journal_load.proofs.are_below.Goals as goal
 
-pub returns-then-leg_count : goal.returns-then-leg_count
-returns-then-leg_count c = record {
+pub returns-then-leg-count : goal.returns-then-leg-count
+returns-then-leg-count c = record {
   yes = never;
   no = λ e a. omega (arith, all_at (λ i. i < c.args.count) c.args.legs.now a c.loop-leg.leg-index 0 c.loop-leg-test.true);
 }

@@ -1,7 +1,6 @@
 -- A log that has come as far as the ring goes has ended.
-use Rattle.std.proofs.Common.{◌≡◌, ◌*◌, ◌≤◌, sym, ap, ◌∙◌, arith}
+use Rattle.std.proofs.Common.{◌*◌, ◌≤◌, ap, arith}
 use Rattle.std.proofs.lemmas.Bool.{le-ltb}
-use Rattle.meaning.specs.Promise.{whole}
 use Rattle.journal.specs.Start as start
 use Rattle.journal_rows.specs.Layout.{ring_blocks}
 use Rattle.limits.specs.Opening.{limits_mean}

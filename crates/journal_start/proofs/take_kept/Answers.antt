@@ -1,5 +1,5 @@
 -- A page of the checkpoint, and the last of them.
-use Rattle.std.proofs.Common.{sym, ap, ◌∙◌, arith}
+use Rattle.std.proofs.Common.{ap, arith}
 use Rattle.flash.specs.Pages.{page_told}
 use Rattle.journal_start.proofs.Steps.{past_at, page_refused, whole_refused, whole_on, none_idle}
 use Rattle.store.specs.Whole.{house}

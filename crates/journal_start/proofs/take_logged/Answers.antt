@@ -1,5 +1,5 @@
 -- A page of the log.
-use Rattle.std.proofs.Common.{◌≡◌, ◌+◌, sym, ap, ◌∙◌, subst, arith}
+use Rattle.std.proofs.Common.{◌+◌, sym, ap, ◌∙◌, arith}
 use Rattle.flash.specs.Pages.{page_told}
 use Rattle.journal_start.proofs.Steps.{ring_few, past_at, is_end, is_spoilt, blank_ends, spoilt_passes, call_done}
 use Rattle.store.proofs.Lents.{lent_none}

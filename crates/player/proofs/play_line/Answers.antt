@@ -1,9 +1,8 @@
 -- A line is a call, which is written as bytes and played, or none, which is refused where it ceases to be one.
-use Rattle.std.proofs.Common.{◌≡◌, sym, refl, ap, ◌∙◌, subst}
+use Rattle.std.proofs.Common.{sym, refl, ap, ◌∙◌, subst}
 use Rattle.protocol.specs.Forms.{call_of}
 use Rattle.text.specs.CallLines.{line_call}
 use Rattle.player.specs.Texts.{PlaysLine}
-use Rattle.player.specs.declared.LinePlayed.{LinePlayed}
 use Rattle.player.proofs.Lines.{some_bytes, reads_as, as_line}
 use Rattle.player.proofs.play_line.Goals as goal
 

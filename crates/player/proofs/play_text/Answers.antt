@@ -1,7 +1,7 @@
 -- Line after line.
-use Rattle.std.proofs.Common.{◌≡◌, ◌-◌, ◌<◌, ◌≤◌, length, sym, refl, ap, ◌∙◌, subst, arith}
+use Rattle.std.proofs.Common.{◌-◌, ◌<◌, ◌≤◌, length, sym, refl, ap, ◌∙◌, subst, arith}
 use Rattle.std.proofs.lemmas.Bool.{eqb-true}
-use Rattle.meaning.specs.Promise.{acts, room_for}
+use Rattle.meaning.specs.Promise.{room_for}
 use Rattle.limits.specs.declared.Limits.{Limits}
 use Rattle.store.specs.Whole.{Lent, house}
 use Rattle.store.specs.declared.Memory.{Memory}

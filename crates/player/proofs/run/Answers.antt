@@ -1,6 +1,5 @@
 -- The chip is taken up, and the text is played from there.
-use Rattle.std.proofs.Common.{◌≡◌, ◌≤◌, List, sym, refl, ap, ◌∙◌, subst}
-use Rattle.meaning.specs.Calls.{Call}
+use Rattle.std.proofs.Common.{◌≤◌, sym, refl, subst}
 use Rattle.meaning.specs.Promise.{room_for}
 use Rattle.limits.specs.Opening.{limits_mean}
 use Rattle.limits.specs.declared.Limits.{Limits}
@@ -11,7 +10,7 @@ use Rattle.journal_steps.specs.Steps.{chip_limits}
 use Rattle.player.specs.Texts.{RunEnded, text_calls}
 use Rattle.player.proofs.Plays.{text_readable}
 use Rattle.player.proofs.Promise.{ended}
-use Rattle.calls.specs.Stage.{stage-calls}
+use Rattle.every_call.specs.Stage.{stage_calls}
 use Rattle.player.proofs.run.Goals as goal
 
 pub play_text-requires : goal.play_text-requires
@@ -24,7 +23,7 @@ returns-in_default g c =
     let none = c.in_default.ensures.taken in
     let chip = g.D.Device.chip c.args.device.now in
     record {
-      promise = (λ before r. none before (subst (λ (l : Limits). Reads (limits_mean stage-calls l) page_bytes chip before) (sym c.take_up.ensures.lent.limits) r), refl, refl);
+      promise = (λ before r. none before (subst (λ (l : Limits). Reads (limits_mean stage_calls l) page_bytes chip before) (sym c.take_up.ensures.lent.limits) r), refl, refl);
       readable = text_readable _ c.args.text.now;
       lent = c.take_up.ensures.lent;
     }
@@ -38,7 +37,7 @@ returns g c =
     let m = c.take_up.new.m in
     let cs = text_calls c.args.text.now in
     record {
-      promise = subst (λ (l : Limits). RunEnded (limits_mean stage-calls l) cs d ts e us c.play_text.result) c.take_up.ensures.lent.limits (ended m c.in-Some.session cs d e ts us c.play_text.result c.in-Some.ensures.taken c.play_text.ensures.played);
+      promise = subst (λ (l : Limits). RunEnded (limits_mean stage_calls l) cs d ts e us c.play_text.result) c.take_up.ensures.lent.limits (ended m c.in-Some.session cs d e ts us c.play_text.result c.in-Some.ensures.taken c.play_text.ensures.played);
       readable = text_readable _ c.args.text.now;
       lent = lent_both c.args.m.now m c.play_text.new.m c.take_up.ensures.lent c.play_text.ensures.lent;
     }

@@ -11,10 +11,10 @@ use Rattle.sales.proofs.show_house.Goals as goal
 
 pub open-m-requires : goal.open-m-requires
 open-m-requires c =
-    let legs : length c.as_mut_slice-legs.result.now ≡ 4096 = omega (arith, c.as_mut_slice-legs.ensures.len, c.in_ok-leg_words.ensures.made) in
-    let fares : length c.as_mut_slice-fares.result.now ≡ 768 = omega (arith, c.as_mut_slice-fares.ensures.len, c.in_ok-fare_words.ensures.made) in
-    let bookings : length c.as_mut_slice-bookings.result.now ≡ 2816 = omega (arith, c.as_mut_slice-bookings.ensures.len, c.in_ok-booking_words.ensures.made) in
-    let sums : length c.as_mut_slice-sums.result.now ≡ 128 = omega (arith, c.as_mut_slice-sums.ensures.len, c.in_ok-all_sums.ensures.made) in
+    let legs : length c.as_mut_slice-legs.result.now ≡ 4096 = omega (arith, c.as_mut_slice-legs.ensures.len, c.in_ok-leg_words.ensures.len) in
+    let fares : length c.as_mut_slice-fares.result.now ≡ 768 = omega (arith, c.as_mut_slice-fares.ensures.len, c.in_ok-fare_words.ensures.len) in
+    let bookings : length c.as_mut_slice-bookings.result.now ≡ 2816 = omega (arith, c.as_mut_slice-bookings.ensures.len, c.in_ok-booking_words.ensures.len) in
+    let sums : length c.as_mut_slice-sums.result.now ≡ 128 = omega (arith, c.as_mut_slice-sums.ensures.len, c.in_ok-all_sums.ensures.len) in
     memory_fits c.args.limits (lengths c.as_mut_slice-legs.result.now c.as_mut_slice-fares.result.now c.as_mut_slice-bookings.result.now c.as_mut_slice-sums.result.now) c.requires.served legs fares bookings sums
 
 pub take_up-requires : goal.take_up-requires

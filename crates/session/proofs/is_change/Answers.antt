@@ -1,5 +1,5 @@
 -- A refusal changes nothing; else the first byte tells.
-use Rattle.std.proofs.Common.{◌≡◌, ◌<◌, length, sym, refl, ap, ◌∙◌, subst, arith}
+use Rattle.std.proofs.Common.{◌<◌, length, sym, ap, ◌∙◌, arith}
 use Rattle.std.proofs.lemmas.Bool.{eqb-true}
 use Rattle.protocol.specs.Forms.{answer_of}
 use Rattle.protocol.specs.declared.Answer.{Answer}

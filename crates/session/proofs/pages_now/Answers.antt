@@ -1,7 +1,6 @@
-use Rattle.std.proofs.Common.{◌≡◌, ℕ, ◌+◌, ◌<◌, ◌≤◌, sym, ap, ◌∙◌, subst, ap₂, arith}
+use Rattle.std.proofs.Common.{◌≡◌, ℕ, ◌+◌, ◌∙◌, arith}
 use Rattle.store.specs.Whole.{house}
-use Rattle.journal_rows.specs.Layout.{leg_pages, fare_pages, booking_pages, most_pages, head, pages}
-use Rattle.journal_steps.specs.Steps.{chip_limits}
+use Rattle.journal_rows.specs.Layout.{leg_pages, fare_pages, booking_pages, head, pages}
 use Rattle.session.proofs.Counts.{few_counts, few_pages}
 use Rattle.session.proofs.pages_now.Goals as goal
 

@@ -1,5 +1,5 @@
 -- The bytes that were found are as many as those that are lent.
-use Rattle.std.proofs.Common.{◌≡◌, sym, ◌∙◌, arith}
+use Rattle.std.proofs.Common.{sym, ◌∙◌, arith}
 use Rattle.chips.proofs.Acts.{as_many}
 use Rattle.chips.proofs.MemoryChipDevice.read.Goals as goal
 

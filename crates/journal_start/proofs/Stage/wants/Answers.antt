@@ -1,8 +1,6 @@
 -- A page of the log stands behind both slots, and the log goes round.
-use Rattle.std.proofs.Common.{◌≡◌, ◌+◌, ◌*◌, Some, sym, ap, ◌∙◌, arith}
+use Rattle.std.proofs.Common.{◌+◌, ◌*◌, Some, ap, arith}
 use Rattle.journal.specs.Slots.{ring_page, around}
-use Rattle.journal_rows.specs.Layout.{slot_blocks, ring_blocks}
-use Rattle.limits.specs.Opening.{limits_mean}
 use Rattle.journal_start.proofs.Stage.wants.Goals as goal
 
 pub returns-in-Replaying : goal.returns-in-Replaying

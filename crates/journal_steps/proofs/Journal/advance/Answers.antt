@@ -4,7 +4,6 @@ use Rattle.std.proofs.lemmas.Bool.{ltb-true, and_parts}
 use Rattle.meaning.specs.Lines.{pick}
 use Rattle.journal.specs.Slots.{longest}
 use Rattle.journal_steps.specs.Steps.{WorkFits, chip_limits}
-use Rattle.journal_steps.specs.declared.Work.{Work}
 use Rattle.journal_steps.specs.declared.Work.TheVariants as work
 use Rattle.journal_steps.proofs.Advances.{logged, checkpointed}
 use Rattle.journal_steps.proofs.Ranges.{log_short, most_few}

@@ -1,4 +1,4 @@
-use Rattle.std.proofs.Common.{◌≡◌, ℕ, suc, ◌+◌, ◌*◌, ◌/◌, ◌<◌, sym, ap, ◌∙◌, subst, arith}
+use Rattle.std.proofs.Common.{◌≡◌, ℕ, ◌+◌, ◌*◌, ◌/◌, ◌<◌, sym, ap, ◌∙◌, subst, arith}
 use Rattle.std.proofs.lemmas.Bool.{eq-eqb, ne_eqb}
 use Rattle.meaning.specs.Promise.{room_for, whole}
 use Rattle.limits.specs.Opening.{limits_mean}
@@ -6,7 +6,7 @@ use Rattle.journal.specs.Slots.{first}
 use Rattle.journal_rows.specs.Layout.{slot_blocks}
 use Rattle.journal_steps.specs.Steps.{chip_limits, journal_of}
 use Rattle.journal_steps.proofs.Plans.{fill_first, fill_next, fill_last, same_block, same_page}
-use Rattle.journal_steps.proofs.Ranges.{block_on, most_few, slot_on}
+use Rattle.journal_steps.proofs.Ranges.{block_on, slot_on}
 use Rattle.journal_steps.proofs.Journal.fill_ahead.Goals as goal
 
 pub returns-then-number-pages : goal.returns-then-number-pages

@@ -1,5 +1,5 @@
 -- Each work gives its act, and leaves the rest.
-use Rattle.std.proofs.Common.{◌≡◌, ◌+◌, ◌*◌, sym, subst, arith}
+use Rattle.std.proofs.Common.{◌+◌, ◌*◌, sym, subst, arith}
 use Rattle.meaning.specs.Promise.{whole}
 use Rattle.journal_steps.specs.Steps.{Gives, WorkFits, chip_limits}
 use Rattle.journal_steps.specs.declared.Work.{Work}

@@ -1,4 +1,4 @@
-use Rattle.std.proofs.Common.{◌≡◌, ℕ, ◌+◌, ◌*◌, ◌<◌, ap, ◌∙◌, arith}
+use Rattle.std.proofs.Common.{◌≡◌, ℕ, ◌+◌, ◌*◌, ap, ◌∙◌, arith}
 use Rattle.meaning.specs.Promise.{whole}
 use Rattle.journal.specs.Slots.{around}
 use Rattle.journal_rows.specs.Layout.{ring_blocks}

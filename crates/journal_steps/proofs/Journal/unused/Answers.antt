@@ -1,5 +1,4 @@
 use Rattle.std.proofs.Common.{refl, arith}
-use Rattle.journal_house.specs.Right.{Room}
 use Rattle.journal_rows.specs.Layout.{ring_blocks}
 use Rattle.journal_rows.proofs.Room.{thrice}
 use Rattle.journal_steps.specs.Steps.{chip_limits}

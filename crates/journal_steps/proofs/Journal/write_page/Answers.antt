@@ -1,4 +1,4 @@
-use Rattle.std.proofs.Common.{◌≡◌, ℕ, ◌+◌, ◌*◌, ◌<◌, sym, ap, ◌∙◌, subst, arith}
+use Rattle.std.proofs.Common.{ℕ, ◌+◌, ◌*◌, ◌<◌, sym, ap, ◌∙◌, subst, arith}
 use Rattle.meaning.specs.Promise.{room_for, whole}
 use Rattle.limits.specs.Opening.{limits_mean}
 use Rattle.journal_steps.specs.Steps.{chip_limits, journal_of}

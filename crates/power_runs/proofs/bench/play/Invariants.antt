@@ -1,5 +1,5 @@
 use Rattle.store.specs.Whole.{Sound}
-use Rattle.calls.specs.Stage.{Idle}
+use Rattle.every_call.specs.Stage.{Idle}
 use Rattle.power_runs.proofs.bench.play.Given as goal
 
 abbrev pub invariant-loop : goal.invariant-loop

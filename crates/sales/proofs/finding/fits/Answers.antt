@@ -1,5 +1,5 @@
 -- By what is checked, one thing after the other.
-use Rattle.std.proofs.Common.{◌≡◌, sym, ◌∙◌}
+use Rattle.std.proofs.Common.{sym, ◌∙◌}
 use Rattle.std.proofs.lemmas.Bool.{eq-eqb, ne_eqb}
 use Rattle.meaning.specs.Promise.{whole}
 use Rattle.sales.proofs.Fits.{not_so_many, so_many}

@@ -1,12 +1,11 @@
 -- A call is begun as the program takes it.
-use Rattle.std.proofs.Common.{◌≡◌, ℕ, ◌≤◌, true, false, List, length, take, sym, refl, ap, ◌∙◌, subst, ap₂, arith}
+use Rattle.std.proofs.Common.{◌≡◌, ℕ, true, false, List, length, take, sym, ap, ◌∙◌, subst, arith}
 use Rattle.meaning.specs.Calls.{answer}
 use Rattle.limits.specs.declared.Limits.{Limits}
-use Rattle.limits.specs.Opening.{limits_mean}
 use Rattle.store.specs.Whole.{house}
 use Rattle.wire.specs.Rows.{encoded, decoded}
-use Rattle.calls.specs.Stage.{stage, stage-calls}
-use Rattle.journal_rows.specs.Layout.{changes, head, pages}
+use Rattle.every_call.specs.Stage.{stage, stage_calls}
+use Rattle.journal_rows.specs.Layout.{changes}
 use Rattle.journal_steps.specs.Steps.{Advanced, Fits, WorkFits}
 use Rattle.journal_steps.specs.declared.Work.{Work}
 use Rattle.session.proofs.Begins.{row_whole, same_next, same_acts, changed_next, changed_acts}
@@ -52,12 +51,12 @@ returns c =
     let e : changes (stage m) (house m) x ≡ true = sym (c.is_change.ensures.changed (stage m) (house m) (take c.answer_row-reply.result.listed c.answer_row-reply.new.sold) d.says) ∙ c.if-not-is_change.false in
     let limits : c.limits-limits.result ≡ m.limits = c.limits-limits.ensures ∙ d.lent.limits in
     let adv : Advanced m.limits c.pages_now.result j k c.advance-self.result = subst (λ (l : Limits). Advanced l c.pages_now.result j k c.advance-self.result) limits c.advance-self.ensures.advanced in
-    let q = adv.journal stage-calls (house m) (house n) (sym c.pages_now.ensures.pages) in
+    let q = adv.journal stage_calls (house m) (house n) (sym c.pages_now.ensures.pages) in
     let w = row_whole (stage m) (house m) bs c.is_change.ensures.bytes e in
     let kept : take (length bs) c.keep_call.new.call ≡ bs = c.keep_call.ensures in
     record {
       next = changed_next (stage m) j (house m) (house n) x d.leaves k e q;
-      acts = changed_acts (stage m) j (house m) (house n) x d.leaves k c.advance-self.result _ _ e q (ap decoded kept) d.says (adv.work stage-calls (house m) x (answer (stage m) (house m) x));
+      acts = changed_acts (stage m) j (house m) (house n) x d.leaves k c.advance-self.result _ _ e q (ap decoded kept) d.says (adv.work stage_calls (house m) x (answer (stage m) (house m) x));
       ready = record {
         sound = d.sound;
         idle = d.idle;

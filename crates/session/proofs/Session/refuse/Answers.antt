@@ -1,9 +1,9 @@
 -- What can't be read is refused, and changes nothing.
-use Rattle.std.proofs.Common.{◌≡◌, [], refl, arith}
+use Rattle.std.proofs.Common.{refl, arith}
 use Rattle.meaning.specs.Calls.{garbled, call_number, good_fields, turned_by, place}
 use Rattle.store.specs.Whole.{house}
 use Rattle.store.proofs.Lents.{lent_none}
-use Rattle.calls.specs.Stage.{stage}
+use Rattle.every_call.specs.Stage.{stage}
 use Rattle.journal_rows.specs.Layout.{is_change}
 use Rattle.session.proofs.Begins.{same_next, same_acts}
 use Rattle.session.proofs.Session.refuse.Goals as goal

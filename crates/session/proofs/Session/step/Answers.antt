@@ -1,12 +1,12 @@
 -- Each act is what its arm does.
-use Rattle.std.proofs.Common.{◌≡◌, ℕ, ◌-◌, ◌*◌, ◌<◌, ◌≤◌, List, [], ◌∷◌, length, take, Some, sym, refl, ap, ◌∙◌, subst, arith, length-take}
+use Rattle.std.proofs.Common.{◌≡◌, ℕ, ◌-◌, ◌≤◌, List, [], ◌∷◌, length, take, Some, sym, refl, ap, ◌∙◌, subst, arith, length-take}
 use borrow.Rule.Slice.PartMut.{mid_of}
 use Rattle.meaning.specs.Calls as meaning
-use Rattle.meaning.specs.Chip as chip
-use Rattle.meaning.specs.Chip.{write}
+use Rattle.journal.specs.Acts as chip
+use Rattle.journal.specs.Acts.{write}
 use Rattle.protocol.specs.Forms.{answer_of}
 use Rattle.store.specs.Whole.{house}
-use Rattle.calls.specs.Stage.{stage, stage-calls}
+use Rattle.every_call.specs.Stage.{stage, stage_calls}
 use Rattle.journal_rows.specs.Bytes.{call_page}
 use Rattle.journal_steps.specs.Steps.{ActFits, acts_of}
 use Rattle.journal_steps.specs.declared.Act.{Act}
@@ -80,4 +80,4 @@ returns-in-WriteCommit c =
     let m = c.args.m.now in
     let on = act_in s m c.requires _ _ c.next-next.result.act c.next-next.result.work c.limits-limits.ensures c.pages_now.ensures.pages c.next-next.ensures.gives c.next-next.ensures.work c.next-next.ensures.act in
     stepped s m c.requires _ _ c.next-next.result.act c.next-next.result.work c.limits-limits.ensures c.pages_now.ensures.pages c.next-next.ensures.gives c.next-next.ensures.work c.next-next.ensures.act _ _ _ _ _
-    (ap (λ (x : Act). acts_of (stage m) s.journal (house m) (call_kept s) (answer_kept s) x) c.in-WriteCommit.is ∙ ap (written c.in-WriteCommit.place) (sym (c.fill_commit.ensures stage-calls))) refl (subst (ActFits m.limits _ s.work) c.in-WriteCommit.is on) tt
+    (ap (λ (x : Act). acts_of (stage m) s.journal (house m) (call_kept s) (answer_kept s) x) c.in-WriteCommit.is ∙ ap (written c.in-WriteCommit.place) (sym (c.fill_commit.ensures stage_calls))) refl (subst (ActFits m.limits _ s.work) c.in-WriteCommit.is on) tt

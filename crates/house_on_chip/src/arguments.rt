@@ -1,0 +1,69 @@
+// The words with which the program is called.
+use flash::Power;
+use std::fmt;
+
+// The most numbers that a tear has: one for each page of a block.
+pub const MOST_TORN: usize = 16;
+
+// What the words say: the files of the pages and of the calls, and when power fails.
+#[derive(Clone, Copy)]
+pub struct Arguments<'a> {
+    pub pages: &'a str,
+    pub calls: &'a str,
+    pub power: Power,
+}
+
+// What went wrong: a wrong use of the program, or a file, the output or memory that fails it.
+#[derive(Clone, Copy)]
+pub enum Trouble<'a> {
+    TooFew,
+    NoNumber(&'a str),
+    NoTear(&'a str),
+    TooManyTears(&'a str),
+    Unreadable(&'a str),
+    Unwritable(&'a str),
+    Unprinted,
+    NoMemory,
+}
+
+impl fmt::Display for Trouble<'_> {
+    fn fmt<W: fmt::Write>(&self, f: &mut fmt::Formatter<W>) -> fmt::Result {
+        match *self {
+            Trouble::TooFew => write!(f, "usage: house PAGES ACTS CALLS [TEAR ...]"),
+            Trouble::NoNumber(word) => write!(f, "the number of acts is no number: {word}"),
+            Trouble::NoTear(word) => write!(f, "a tear is 0, 1 or 2: {word}"),
+            Trouble::TooManyTears(word) => write!(f, "a tear has at most 16 numbers: {word}"),
+            Trouble::Unreadable(path) => write!(f, "can't read {path}"),
+            Trouble::Unwritable(path) => write!(f, "can't write {path}"),
+            Trouble::Unprinted => write!(f, "can't print the answers"),
+            Trouble::NoMemory => write!(f, "out of memory"),
+        }
+    }
+}
+
+// What the words behind the program's name say.
+pub fn read_arguments(words: &[String]) -> Result<Arguments<'_>, Trouble<'_>> {
+    let [pages, acts, calls, tears @ ..] = words else {
+        return Err(Trouble::TooFew);
+    };
+    let Ok(count) = acts.as_str().parse::<u64>() else {
+        return Err(Trouble::NoNumber(acts.as_str()));
+    };
+    let mut tear = [0; 16];
+    for (i, word) in tears.iter().enumerate() {
+        if i >= MOST_TORN {
+            return Err(Trouble::TooManyTears(word.as_str()));
+        }
+        tear[i] = match word.as_str() {
+            "0" => 0,
+            "1" => 1,
+            "2" => 2,
+            other => return Err(Trouble::NoTear(other)),
+        };
+    }
+    Ok(Arguments {
+        pages: pages.as_str(),
+        calls: calls.as_str(),
+        power: Power { acts: count, tear },
+    })
+}
