@@ -1,7 +1,7 @@
 -- What a call does, of all that there are. Definitions only: nothing is assumed or proved here.
 use Rattle.std.specs.Prelude.{◌≡◌, ℕ, Bool, false, List}
 use Rattle.meaning.specs.Calls as meaning
-use Rattle.meaning.specs.Calls.{Call, books, cancels, after, answer, answers, most, the_booking, turned}
+use Rattle.meaning.specs.Calls.{Call, after, answer}
 use Rattle.meaning.specs.Promise.{whole}
 use Rattle.meaning.specs.Statements.{some_could}
 use Rattle.limits.specs.Opening.{limits_mean}

@@ -1,7 +1,7 @@
-// The program `house PAGES ACTS CALLS [TEAR ...]`: keeps a house in the file PAGES, which stands for
-// the chip, plays the calls of the file CALLS on it, and prints each answer as a line. It is thin: the
-// crate `file_chip` is the chip in a file, and the crate `player` takes up the chip and plays the calls
-// on it, in memory that is lent for one run.
+// The program `house_on_chip PAGES ACTS CALLS [TEAR ...]`: keeps a house in the file PAGES, which
+// stands for the chip, plays the calls of the file CALLS on it, and prints each answer as a line. It is
+// thin: the crate `file_chip` is the chip in a file, and the crate `player` takes up the chip and plays
+// the calls on it, in memory that is lent for one run.
 #![tactic(auto)]
 
 ghost use Rattle.std.specs.Prelude.{◌≡◌, ◌≤◌, true, length};

@@ -1,4 +1,4 @@
--- What is proved of the house on a chip; and the meaning's own promise, with its reading of chips as a part of it.
+-- What is proved of the house on a chip; and the promise of the crate journal, with its reading of chips as a part of it.
 use Rattle.std.proofs.Common.{◌≡◌, ℕ, suc, ◌+◌, ◌≤◌, Bool, List, [], ◌∷◌, length, refl, ap, ◌∙◌, subst}
 use Rattle.meaning.specs.House.{House}
 use Rattle.meaning.specs.Calls.{Call, Limits, after, answers, ran, new_house}
@@ -48,7 +48,7 @@ is_the_house l g =
       kept = λ d e ts cs k r ok t. w.kept d e ts cs k r (same_readable l cs ∙ ok) t;
     }
 
--- THE MEANING'S OWN PROMISE, for all limits and whatever calls the house can take, those of the first stage and all calls among them. It speaks of all readings of chips, which no contract can: so it
+-- THE PROMISE, for all limits and whatever calls the house can take, those of the first stage and all calls among them. It speaks of all readings of chips, which no contract can: so it
 -- stands here as a term that is checked
 pub right : (can : ℕ → Bool) → Right can (program page_bytes)
 unfolding Right

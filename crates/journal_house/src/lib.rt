@@ -1,7 +1,7 @@
 // What is proved of the house that is kept by a journal on a chip; specs/Right.antt has the
-// statements. Each function carries one or two of them, and does nothing when called. The promise in
-// the meaning's own words, where the reading of chips is a part of it, is in proofs/Right.antt: no
-// contract can carry it, since it speaks of every such reading.
+// statements. Each function carries one or two of them, and does nothing when called. The promise
+// of the crate journal (specs/Programs.antt), where the reading of chips is a part of it, is in
+// proofs/Right.antt: no contract can carry it, since it speaks of every such reading.
 #![tactic(auto)]
 
 ghost use Rattle.journal_house.specs.Right.{ByNumber, ByPage, ByPlan, CallsFast, FewPages, KnownChip, RightByReading, Rises, Roomy};
