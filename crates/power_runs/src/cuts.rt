@@ -1,10 +1,10 @@
 // Power fails in every act of a list of calls in turn, by each of several tears; and three times in a
 // row.
-use crate::bench::{Bench, NEVER};
-use crate::story::Story;
 use anyhow::anyhow;
 use flash::Power;
 use player::Ending;
+use power_bench::{Bench, NEVER};
+use power_stories::Story;
 
 // What power leaves of the pages of the act in which it fails: 0 as before, 1 done, 2 spoilt. A write
 // has one page, and looks at the first number alone: two tears of the six leave it written.

@@ -6,26 +6,21 @@
 // every number that is printed.
 #![tactic(auto)]
 
-mod bench;
 mod cuts;
-mod lists;
-mod mishaps;
-mod others;
-mod story;
 
 use anyhow::anyhow;
-use bench::{Bench, NEVER};
 use cuts::{Tally, cut_again, cut_everywhere};
 use flash::Power;
 use limits::Limits;
-use lists::{example_list, larger_list, questions, whole_list};
-use mishaps::play_mishaps;
-use others::{
+use player::Ending;
+use power_bench::{Bench, NEVER};
+use power_lists::{example_list, larger_list, questions, whole_list};
+use power_others::mishaps::play_mishaps;
+use power_others::{
     log_begins, rubbish, try_garbled, try_other_limits, try_other_pages, try_out_of_range,
 };
-use player::Ending;
+use power_stories::{Story, print_answer};
 use scan::read_line;
-use story::{Story, print_answer};
 
 // A house whose log is always one block long.
 const SMALL: Limits = Limits {

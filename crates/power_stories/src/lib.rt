@@ -1,10 +1,12 @@
 // A list of calls, what a house that never fails answers to it, and what it answers to every question
 // after each of its calls; and what a house on the chip is held to.
-use crate::bench::{Bench, Life, NEVER};
+#![tactic(auto)]
+
 use anyhow::anyhow;
 use chips::Said;
 use flash::Power;
 use player::Ending;
+use power_bench::{Bench, Life, NEVER};
 use scan::read_line;
 use std::alloc::Global;
 use text::answers::AnswerLine;

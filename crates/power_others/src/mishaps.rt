@@ -1,6 +1,6 @@
 // How houses went wrong, each played on a new chip, and every answer printed.
-use crate::bench::{Bench, NEVER};
-use crate::story::print_answer;
+use power_bench::{Bench, NEVER};
+use power_stories::print_answer;
 
 // What went wrong elsewhere, and must not here.
 const TITLES: [&str; 5] = [

@@ -1,4 +1,6 @@
 // The lists of calls that are played, and the questions that are asked after each failure.
+#![tactic(auto)]
+
 use std::alloc::{AllocError, Global};
 
 // The worked example, as far as it opens, files, books and asks, with calls that are refused.

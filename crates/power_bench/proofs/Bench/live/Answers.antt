@@ -5,7 +5,7 @@ use Rattle.meaning.specs.Promise.{room_for, thin}
 use Rattle.journal_steps.specs.Steps.{chip_limits}
 use Rattle.limits.specs.Opening.{limits_mean}
 use Rattle.limits.specs.declared.Limits.{Limits}
-use Rattle.power_runs.proofs.bench.Bench.live.Goals as goal
+use Rattle.power_bench.proofs.Bench.live.Goals as goal
 
 pub run-ending-requires : goal.run-ending-requires
 run-ending-requires c =

@@ -3,7 +3,7 @@ use Rattle.std.proofs.Common.{ap}
 use Rattle.meaning.specs.House.{House}
 use Rattle.meaning.specs.Statements.{some_could}
 use Rattle.meaning.specs.Promise.{thin}
-use Rattle.power_runs.proofs.bench.Bench.recall.Goals as goal
+use Rattle.power_bench.proofs.Bench.recall.Goals as goal
 
 pub play-requires : goal.play-requires
 unfolding some_could

@@ -1,5 +1,7 @@
 // Memory and a chip that are made once, and lent anew for each life of a house: from one start to the
 // end of its calls, or to the failure of power.
+#![tactic(auto)]
+
 ghost use Rattle.std.specs.Prelude.{◌≡◌, ◌≤◌};
 ghost use Rattle.meaning.specs.Promise.{room_for};
 ghost use Rattle.store.specs.Whole.{Sound};

@@ -1,6 +1,6 @@
 use Rattle.store.specs.Whole.{Sound}
 use Rattle.every_call.specs.Stage.{Idle}
-use Rattle.power_runs.proofs.bench.play.Given as goal
+use Rattle.power_bench.proofs.play.Given as goal
 
 abbrev pub invariant-loop : goal.invariant-loop
 invariant-loop l = Sound l.m × Idle l.m

@@ -1,9 +1,13 @@
 // Chips that are no chip of the house, and lines that are no calls.
-use crate::bench::{Bench, NEVER};
-use crate::story::{Story, skip_lines};
+#![tactic(auto)]
+
+pub mod mishaps;
+
 use anyhow::anyhow;
 use limits::Limits;
 use player::Ending;
+use power_bench::{Bench, NEVER};
+use power_stories::{Story, skip_lines};
 use protocol::Answer;
 use std::alloc::{AllocError, Global};
 
