@@ -2,7 +2,8 @@
 // end of its calls, or to the failure of power.
 #![tactic(auto)]
 
-ghost use Rattle.std.specs.Prelude.{◌≡◌, ◌≤◌};
+ghost use Rattle.std.specs.Prelude.{◌≡◌, ◌≢◌, ◌≤◌, ◌*◌, IfOk, OnOk, OnErr, length, replicate};
+ghost use Rattle.power_bench.specs.Benches.{WithPage, pages_of};
 ghost use Rattle.meaning.specs.Promise.{room_for};
 ghost use Rattle.store.specs.Whole.{Sound};
 ghost use Rattle.every_call.specs.Stage.{Idle};
@@ -28,6 +29,9 @@ pub const NEVER: Power = Power {
     acts: 0,
     tear: [0; 16],
 };
+
+// The bytes of a page in memory, with the one that says how it is.
+const ROW: usize = 513;
 
 // Memory for a house of these limits, and the pages of its chip.
 #[derive(Drop)]
@@ -107,9 +111,23 @@ fn play(
     Ok(())
 }
 
+// Fills a page: how it is, and each of its bytes.
+pub fn fill_page(pages: &mut [u8], page: usize, state: u8, byte: u8)
+    ensures { WithPage page state byte pages.old pages.new }
+{
+    for (i, place) in pages.iter_mut().enumerate() {
+        if i / ROW == page {
+            *place = if i % ROW == 0 { state } else { byte };
+        }
+    }
+}
+
 impl Bench {
     // Memory for a house of these limits, and a blank chip.
-    pub fn new(heap: Global, limits: Limits) -> Result<Bench, AllocError> {
+    pub fn new(heap: Global, limits: Limits) -> Result<Bench, AllocError>
+        ensures blank { IfOk result (λ b. pages_of b ≡ replicate (room_for (chip_limits limits) * 8208) 0) }
+        ensures limits { IfOk result (λ b. b.limits ≡ limits) }
+    {
         let asked = limits.asks();
         Ok(Bench {
             legs: vec![in heap; 0u32; asked.legs]?,
@@ -122,17 +140,26 @@ impl Bench {
     }
 
     // The bytes of the chip.
-    pub fn pages(&self) -> &[u8] {
+    pub fn pages(&self) -> &[u8]
+        ensures { result.now ≡ pages_of self.now }
+    {
         self.pages.as_slice()
     }
 
-    // The bytes of the chip, to be changed.
-    pub fn pages_mut(&mut self) -> &mut [u8] {
-        self.pages.as_mut_slice()
+    // Fills a page of the chip: how it is, and each of its bytes.
+    pub fn put_page(&mut self, page: usize, state: u8, byte: u8)
+        ensures pages { WithPage page state byte (pages_of self.old) (pages_of self.new) }
+        ensures limits { self.new.limits ≡ self.old.limits }
+    {
+        fill_page(self.pages.as_mut_slice(), page, state, byte);
     }
 
     // Makes the chip a copy of another of its size.
-    pub fn set_pages(&mut self, from: &[u8]) -> anyhow::Result<()> {
+    pub fn set_pages(&mut self, from: &[u8]) -> anyhow::Result<()>
+        ensures copied { OnOk result (pages_of self.new ≡ from.now) }
+        ensures refused { OnErr result ((length (pages_of self.old) ≢ length from.now) × (pages_of self.new ≡ pages_of self.old)) }
+        ensures limits { self.new.limits ≡ self.old.limits }
+    {
         let pages = self.pages.as_mut_slice();
         if pages.len() != from.len() {
             return Err(anyhow!("a chip of another size"));

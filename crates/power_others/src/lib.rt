@@ -1,12 +1,14 @@
 // Chips that are no chip of the house, and lines that are no calls.
 #![tactic(auto)]
 
+ghost use Rattle.std.specs.Prelude.{◌≡◌, ◌+◌, ◌*◌, ◌<◌, IfOk, length, slice_index, vec_len};
+
 pub mod mishaps;
 
 use anyhow::anyhow;
 use limits::Limits;
 use player::Ending;
-use power_bench::{Bench, NEVER};
+use power_bench::{Bench, NEVER, fill_page};
 use power_stories::{Story, skip_lines};
 use protocol::Answer;
 use std::alloc::{AllocError, Global};
@@ -65,32 +67,27 @@ const OTHERS: [Limits; 5] = [
     },
 ];
 
-// Fills a page: how it is, and each of its bytes.
-pub fn put_page(pages: &mut [u8], page: usize, state: u8, byte: u8) {
-    for (i, place) in pages.iter_mut().enumerate() {
-        if i / ROW == page {
-            *place = if i % ROW == 0 { state } else { byte };
-        }
-    }
-}
-
 // A chip of so many bytes on which each page but the first ones of the slots has other bytes: it counts
 // as never used.
-pub fn rubbish(heap: Global, bytes: usize, second: usize) -> Result<Vec<u8>, AllocError> {
+pub fn rubbish(heap: Global, bytes: usize, second: usize) -> Result<Vec<u8>, AllocError>
+    ensures { IfOk result (λ v. vec_len v ≡ bytes) }
+{
     let mut pages = vec![in heap; 7u8; bytes]?;
     for (i, place) in pages.as_mut_slice().iter_mut().enumerate() {
         if i % ROW == 0 {
             *place = 1;
         }
     }
-    put_page(pages.as_mut_slice(), 0, 0, 0);
-    put_page(pages.as_mut_slice(), second, 2, 0);
+    fill_page(pages.as_mut_slice(), 0, 0, 0);
+    fill_page(pages.as_mut_slice(), second, 2, 0);
     Ok(pages)
 }
 
 // Where the log of the slot begins whose first block this is: byte 44 of its commit record, with the
 // byte before the page that says how it is; the place is below 65,536.
-pub fn log_begins(pages: &[u8], block: usize) -> u64 {
+pub fn log_begins(pages: &[u8], block: usize) -> u64
+    ensures { block < 65536 → result ≡ slice_index pages.now (block * 8208 + 45) + 256 * slice_index pages.now (block * 8208 + 46) }
+{
     let at = block.saturating_mul(16 * ROW).saturating_add(45);
     let low = pages.get(at).copied().unwrap_or(0);
     let high = pages.get(at.saturating_add(1)).copied().unwrap_or(0);
@@ -116,7 +113,9 @@ pub fn try_other_limits(
     rt: &HostRuntime,
     bench: &mut Bench,
     whole: &[u8],
-) -> anyhow::Result<usize> {
+) -> anyhow::Result<usize>
+    ensures { IfOk result (λ n. n ≡ 5) }
+{
     let own = bench.limits;
     bench.set_pages(whole)?;
     for limits in OTHERS {
@@ -133,11 +132,13 @@ pub fn try_other_pages(
     bench: &mut Bench,
     start: &[u8],
     edits: &[(usize, u8)],
-) -> anyhow::Result<usize> {
+) -> anyhow::Result<usize>
+    ensures { IfOk result (λ n. n ≡ length edits.now) }
+{
     for edit in edits {
         let (page, state) = *edit;
         bench.set_pages(start)?;
-        put_page(bench.pages_mut(), page, state, 7);
+        bench.put_page(page, state, 7);
         expect_refused(rt, bench)?;
     }
     Ok(edits.len())
@@ -152,7 +153,9 @@ fn try_lines(
     text: &str,
     number: u64,
     places: &[u64],
-) -> anyhow::Result<usize> {
+) -> anyhow::Result<usize>
+    ensures { IfOk result (λ n. n ≡ length places.now) }
+{
     let life = bench.live(rt.alloc(), NEVER, text.as_bytes())?;
     for (one, wanted) in life.said.as_slice().iter().zip(places.iter()) {
         let refusal = Answer::Refused {
@@ -174,7 +177,9 @@ fn try_lines(
 }
 
 // Plays lines that are no calls. Gives how many.
-pub fn try_garbled(rt: &HostRuntime, bench: &mut Bench, story: &Story) -> anyhow::Result<usize> {
+pub fn try_garbled(rt: &HostRuntime, bench: &mut Bench, story: &Story) -> anyhow::Result<usize>
+    ensures { IfOk result (λ n. n ≡ 8) }
+{
     try_lines(rt, bench, story, GARBLED, 1, &PLACES)
 }
 
@@ -183,6 +188,8 @@ pub fn try_out_of_range(
     rt: &HostRuntime,
     bench: &mut Bench,
     story: &Story,
-) -> anyhow::Result<usize> {
+) -> anyhow::Result<usize>
+    ensures { IfOk result (λ n. n ≡ 4) }
+{
     try_lines(rt, bench, story, OUT_OF_RANGE, 2, &[0; 4])
 }

@@ -14,7 +14,9 @@ use flash::Power;
 use limits::Limits;
 use player::Ending;
 use power_bench::{Bench, NEVER};
-use power_lists::{example_list, larger_list, questions, whole_list};
+use power_lists::{
+    FIRST_STAGE, LARGER, QUESTIONS, WORKED_EXAMPLE, with_bookings, with_questions,
+};
 use power_others::mishaps::play_mishaps;
 use power_others::{
     log_begins, rubbish, try_garbled, try_other_limits, try_other_pages, try_out_of_range,
@@ -138,8 +140,9 @@ fn try_others(
 fn run_small(rt: &HostRuntime) -> anyhow::Result<()> {
     let heap = rt.alloc();
     let mut bench = Bench::new(heap, SMALL)?;
-    let calls = example_list(heap, 48)?;
-    let story = Story::new(heap, &mut bench, calls, questions(heap, 48)?)?;
+    let calls = with_bookings(heap, FIRST_STAGE, 3, 49)?;
+    let asked = with_questions(heap, QUESTIONS, 48)?;
+    let story = Story::new(heap, &mut bench, calls, asked)?;
     for i in 0..18 {
         print_answer(rt, "", story.given(), i)?;
     }
@@ -163,7 +166,9 @@ fn run_small(rt: &HostRuntime) -> anyhow::Result<()> {
 fn run_example(rt: &HostRuntime) -> anyhow::Result<()> {
     let heap = rt.alloc();
     let mut bench = Bench::new(heap, EXAMPLE)?;
-    let story = Story::new(heap, &mut bench, whole_list(heap)?, questions(heap, 4)?)?;
+    let calls = with_bookings(heap, WORKED_EXAMPLE, 4, 4)?;
+    let asked = with_questions(heap, QUESTIONS, 4)?;
+    let story = Story::new(heap, &mut bench, calls, asked)?;
     for i in 14..24 {
         print_answer(rt, "", story.given(), i)?;
     }
@@ -177,8 +182,9 @@ fn run_example(rt: &HostRuntime) -> anyhow::Result<()> {
 fn run_large(rt: &HostRuntime) -> anyhow::Result<()> {
     let heap = rt.alloc();
     let mut bench = Bench::new(heap, LARGE)?;
-    let calls = larger_list(heap, 160)?;
-    let story = Story::new(heap, &mut bench, calls, questions(heap, 160)?)?;
+    let calls = with_bookings(heap, LARGER, 0, 160)?;
+    let asked = with_questions(heap, QUESTIONS, 160)?;
+    let story = Story::new(heap, &mut bench, calls, asked)?;
     play_next(rt, &mut bench, &story, 0)?;
     wear(rt, &mut bench, &story, 1, 22)?;
     for known in 23..120 {

@@ -2,6 +2,9 @@
 // after each of its calls; and what a house on the chip is held to.
 #![tactic(auto)]
 
+ghost use Rattle.std.specs.Prelude.{◌≡◌, map, slice_index, vec_len, string_bytes};
+ghost use Rattle.power_stories.specs.Stories.{behind};
+
 use anyhow::anyhow;
 use chips::Said;
 use flash::Power;
@@ -32,7 +35,9 @@ pub struct Outcome {
 }
 
 // What is left of a text behind its first so many lines.
-pub fn skip_lines(text: &[u8], count: usize) -> &[u8] {
+pub fn skip_lines(text: &[u8], count: usize) -> &[u8]
+    ensures { result.now ≡ behind count text.now }
+{
     let mut rest = text;
     for _ in 0..count {
         rest = read_line(rest).rest;
@@ -115,12 +120,16 @@ impl Story {
     }
 
     // How many calls there are.
-    pub fn len(&self) -> usize {
+    pub fn len(&self) -> usize
+        ensures { result ≡ vec_len self.now.given }
+    {
         self.given.len()
     }
 
     // How many questions there are.
-    pub fn question_count(&self) -> u64 {
+    pub fn question_count(&self) -> u64
+        ensures { result ≡ slice_index (map (λ v. vec_len v) self.now.asked.items) 0 }
+    {
         match self.asked.first() {
             Some(answers) => answers.len() as u64,
             None => 0,
@@ -128,12 +137,16 @@ impl Story {
     }
 
     // The answers to the calls.
-    pub fn given(&self) -> &[Said] {
+    pub fn given(&self) -> &[Said]
+        ensures { result.now ≡ self.now.given.items }
+    {
         self.given.as_slice()
     }
 
     // The calls behind the first so many.
-    pub fn rest(&self, known: usize) -> &[u8] {
+    pub fn rest(&self, known: usize) -> &[u8]
+        ensures { result.now ≡ behind known (string_bytes self.now.calls) }
+    {
         skip_lines(self.calls.as_str().as_bytes(), known)
     }
 
