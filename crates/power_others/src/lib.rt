@@ -1,7 +1,8 @@
 // Chips that are no chip of the house, and lines that are no calls.
 #![tactic(auto)]
 
-ghost use Rattle.std.specs.Prelude.{◌≡◌, ◌+◌, ◌*◌, ◌<◌, IfOk, length, slice_index, vec_len};
+ghost use Rattle.std.specs.Prelude.{◌≡◌, ◌+◌, ◌*◌, ◌<◌, IfOk, length, slice_index};
+ghost use Rattle.power_others.specs.Rubbish.{IsRubbish, Marked};
 
 pub mod mishaps;
 
@@ -67,20 +68,28 @@ const OTHERS: [Limits; 5] = [
     },
 ];
 
-// A chip of so many bytes on which each page but the first ones of the slots has other bytes: it counts
-// as never used.
-pub fn rubbish(heap: Global, bytes: usize, second: usize) -> Result<Vec<u8>, AllocError>
-    ensures { IfOk result (λ v. vec_len v ≡ bytes) }
+// Says of each page that it is written.
+fn mark_written(pages: &mut [u8])
+    ensures { Marked pages.old pages.new }
 {
-    let mut pages = vec![in heap; 7u8; bytes]?;
-    for (i, place) in pages.as_mut_slice().iter_mut().enumerate() {
+    for (i, place) in pages.iter_mut().enumerate() {
         if i % ROW == 0 {
             *place = 1;
         }
     }
-    fill_page(pages.as_mut_slice(), 0, 0, 0);
-    fill_page(pages.as_mut_slice(), second, 2, 0);
-    Ok(pages)
+}
+
+// A chip of so many bytes on which each page but the first ones of the slots has other bytes: it counts
+// as never used.
+pub fn rubbish(heap: Global, bytes: usize, second: usize) -> Result<Vec<u8>, AllocError>
+    ensures { IfOk result (λ v. IsRubbish bytes second v.items) }
+{
+    let mut rows = vec![in heap; 7u8; bytes]?;
+    let pages = rows.as_mut_slice();
+    mark_written(pages);
+    fill_page(pages, 0, 0, 0);
+    fill_page(pages, second, 2, 0);
+    Ok(rows)
 }
 
 // Where the log of the slot begins whose first block this is: byte 44 of its commit record, with the
