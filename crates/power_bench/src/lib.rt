@@ -3,7 +3,7 @@
 #![tactic(auto)]
 
 ghost use Rattle.std.specs.Prelude.{◌≡◌, ◌≢◌, ◌≤◌, ◌*◌, IfOk, OnOk, OnErr, length, replicate};
-ghost use Rattle.power_bench.specs.Benches.{WithPage, pages_of};
+ghost use Rattle.power_bench.specs.Benches.{Lived, WithPage, pages_of};
 ghost use Rattle.meaning.specs.Promise.{room_for};
 ghost use Rattle.store.specs.Whole.{Sound};
 ghost use Rattle.every_call.specs.Stage.{Idle};
@@ -169,7 +169,9 @@ impl Bench {
     }
 
     // One life: a new house in memory takes up the chip, and plays a text.
-    pub fn live(&mut self, heap: Global, power: Power, text: &[u8]) -> anyhow::Result<Life> {
+    pub fn live(&mut self, heap: Global, power: Power, text: &[u8]) -> anyhow::Result<Life>
+        ensures { IfOk result (λ life. Lived self.old.limits (pages_of self.old) text.now life) }
+    {
         let limits = self.limits;
         let legs = self.legs.as_mut_slice();
         let fares = self.fares.as_mut_slice();
