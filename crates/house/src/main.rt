@@ -9,11 +9,10 @@ ghost use Rattle.store.specs.Whole.{Sound, house};
 ghost use Rattle.calls.specs.Stage.{stage};
 
 mod answering;
-mod arguments;
 mod opening;
 
 use answering::{answer_line, is_passed_over};
-use arguments::{Arguments, Misuse, read_arguments};
+use arguments::{Trouble, read_arguments};
 use flash::Power;
 use limits::{Limits, Sizes};
 use opening::open_house;
@@ -145,22 +144,22 @@ fn play(rt: &HostRuntime, text: &[u8], bytes: u64, power: &mut Power) -> io::Res
 fn run(rt: &HostRuntime, words: &[String]) -> io::Result<bool> {
     let arguments = match read_arguments(words) {
         Ok(arguments) => arguments,
-        Err(misuse) => return complain(rt, misuse),
+        Err(trouble) => return complain(rt, trouble),
     };
     let Ok(bytes) = pages_length(rt, arguments.pages) else {
-        return complain(rt, Misuse::Unreadable(arguments.pages));
+        return complain(rt, Trouble::Unreadable(arguments.pages));
     };
     let Ok(text) = fs::read(rt, arguments.calls) else {
-        return complain(rt, Misuse::Unreadable(arguments.calls));
+        return complain(rt, Trouble::Unreadable(arguments.calls));
     };
     let mut power = arguments.power;
     play(rt, text.as_slice(), bytes, &mut power)?;
     Ok(true)
 }
 
-// Says on standard error, in one line, how the program was misused.
-fn complain(rt: &HostRuntime, misuse: Misuse<'_>) -> io::Result<bool> {
-    eprintln!(rt; "house: {misuse}")?;
+// Says on standard error, in one line, what went wrong.
+fn complain(rt: &HostRuntime, trouble: Trouble<'_>) -> io::Result<bool> {
+    eprintln!(rt; "house: {trouble}")?;
     Ok(false)
 }
 

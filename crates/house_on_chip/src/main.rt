@@ -9,7 +9,6 @@ ghost use Rattle.meaning.specs.Promise.{room_for};
 ghost use Rattle.journal_steps.specs.Steps.{chip_limits};
 ghost use Rattle.house_on_chip.specs.Opening.{limits_in, memory_suffices, opening_refused, times_fit};
 
-mod arguments;
 mod opening;
 
 use arguments::{Arguments, Trouble, read_arguments};

@@ -1,4 +1,10 @@
-// The words with which the program is called.
+// The words with which the programs `house` and `house_on_chip` are called, and what is wrong in a use
+// of them.
+#![tactic(auto)]
+
+ghost use Rattle.std.specs.Prelude.{◌≡◌, map, string_bytes};
+ghost use Rattle.arguments.specs.Words.{TearTold, Told, number_of};
+
 use flash::Power;
 use std::fmt;
 
@@ -41,26 +47,48 @@ impl fmt::Display for Trouble<'_> {
     }
 }
 
+// The number that a word of a tear is.
+#[tactic(auto, unfolding(crate::specs::Words::number_of))]
+fn tear_number(word: &str) -> Option<u8>
+    ensures { result ≡ number_of word.now }
+{
+    match word {
+        "0" => Some(0),
+        "1" => Some(1),
+        "2" => Some(2),
+        _ => None,
+    }
+}
+
+// The tear that words are.
+fn read_tear(words: &[String]) -> Result<[u8; 16], Trouble<'_>>
+    ensures { TearTold (map string_bytes words.now) result }
+{
+    let mut tear = [0; 16];
+    for (i, word) in words.iter().enumerate() {
+        let word = word.as_str();
+        if i >= MOST_TORN {
+            return Err(Trouble::TooManyTears(word));
+        }
+        let Some(number) = tear_number(word) else {
+            return Err(Trouble::NoTear(word));
+        };
+        tear[i] = number;
+    }
+    Ok(tear)
+}
+
 // What the words behind the program's name say.
-pub fn read_arguments(words: &[String]) -> Result<Arguments<'_>, Trouble<'_>> {
+pub fn read_arguments(words: &[String]) -> Result<Arguments<'_>, Trouble<'_>>
+    ensures { Told (map string_bytes words.now) result }
+{
     let [pages, acts, calls, tears @ ..] = words else {
         return Err(Trouble::TooFew);
     };
     let Ok(count) = acts.as_str().parse::<u64>() else {
         return Err(Trouble::NoNumber(acts.as_str()));
     };
-    let mut tear = [0; 16];
-    for (i, word) in tears.iter().enumerate() {
-        if i >= MOST_TORN {
-            return Err(Trouble::TooManyTears(word.as_str()));
-        }
-        tear[i] = match word.as_str() {
-            "0" => 0,
-            "1" => 1,
-            "2" => 2,
-            other => return Err(Trouble::NoTear(other)),
-        };
-    }
+    let tear = read_tear(tears)?;
     Ok(Arguments {
         pages: pages.as_str(),
         calls: calls.as_str(),
