@@ -118,11 +118,7 @@ fn expect_refused(rt: &HostRuntime, bench: &mut Bench) -> anyhow::Result<()> {
 }
 
 // Opens a chip with the limits of other houses. Gives how many there are.
-pub fn try_other_limits(
-    rt: &HostRuntime,
-    bench: &mut Bench,
-    whole: &[u8],
-) -> anyhow::Result<usize>
+pub fn try_other_limits(rt: &HostRuntime, bench: &mut Bench, whole: &[u8]) -> anyhow::Result<usize>
     ensures { IfOk result (λ n. n ≡ 5) }
 {
     let own = bench.limits;
@@ -193,11 +189,7 @@ pub fn try_garbled(rt: &HostRuntime, bench: &mut Bench, story: &Story) -> anyhow
 }
 
 // Plays calls that are out of range. Gives how many.
-pub fn try_out_of_range(
-    rt: &HostRuntime,
-    bench: &mut Bench,
-    story: &Story,
-) -> anyhow::Result<usize>
+pub fn try_out_of_range(rt: &HostRuntime, bench: &mut Bench, story: &Story) -> anyhow::Result<usize>
     ensures { IfOk result (λ n. n ≡ 4) }
 {
     try_lines(rt, bench, story, OUT_OF_RANGE, 2, &[0; 4])
