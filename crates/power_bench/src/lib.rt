@@ -31,7 +31,7 @@ pub const NEVER: Power = Power {
 };
 
 // The bytes of a page in memory, with the one that says how it is.
-const ROW: usize = 513;
+pub const ROW: usize = 513;
 
 // Memory for a house of these limits, and the pages of its chip.
 #[derive(Drop)]

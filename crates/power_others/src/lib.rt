@@ -9,13 +9,10 @@ pub mod mishaps;
 use anyhow::anyhow;
 use limits::Limits;
 use player::Ending;
-use power_bench::{Bench, NEVER, fill_page};
+use power_bench::{Bench, NEVER, ROW, fill_page};
 use power_stories::{Story, skip_lines};
 use protocol::Answer;
 use std::alloc::{AllocError, Global};
-
-// The bytes of a page in memory, with the one that says how it is.
-const ROW: usize = 513;
 
 // Lines that are no calls, and the first byte of each that doesn't fit: an unknown word; the same
 // behind two spaces; a line that is too short, so its length; a number too many; a letter for a number;
