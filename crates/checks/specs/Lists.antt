@@ -1,5 +1,6 @@
 -- What is read of the list of a call. Definitions only: nothing is assumed or proved here.
-use Rattle.std.specs.Prelude.{◌≡◌, ℕ, ◌<◌, ◌≤◌, true, false, ◌&&◌, List, length, take, Some, None, Option, nat_le}
+use Rattle.std.specs.Prelude.{◌≡◌, ℕ, ◌+◌, ◌<◌, ◌≤◌, Bool, true, false, ◌&&◌, List, length, take, Some, None, Option, ◌==◌, nat_le, nat_lt}
+use Rattle.meaning.specs.Lines.{Leg, leg}
 use Rattle.meaning.specs.Calls.{good_limits}
 use Rattle.wire.specs.Bytes.{numbers_in}
 use Rattle.checks.specs.declared.Journey.{Journey}
@@ -35,3 +36,11 @@ pub record LimitsAre (part : List ℕ) (r : LimitRow) : Type 0 where
 abbrev pub LimitsRead : List ℕ → Option LimitRow → Type 0
 LimitsRead part (Some r) = LimitsAre part r
 LimitsRead part None = good_limits (numbers_in part) ≡ false
+
+-- is leg i there, with class c
+abbrev pub leg_there : List Leg → ℕ → ℕ → Bool
+leg_there ls c i = nat_lt i (length ls) && nat_lt c (length (leg ls i).limits)
+
+-- does leg j begin where leg i ended, and leave no sooner than a given time after
+abbrev pub legs_join : List Leg → ℕ → ℕ → ℕ → Bool
+legs_join ls gap i j = (leg ls i).to == (leg ls j).from && nat_le ((leg ls i).arrives + gap) (leg ls j).leaves

@@ -2,12 +2,11 @@
 // handed on as an array, and a journey's legs against the memory. Each is a test of the meaning.
 #![tactic(auto)]
 
-ghost use Rattle.std.specs.Prelude.{◌≡◌, ℕ, ◌<◌, ◌≤◌, length, drop, slice_index};
+ghost use Rattle.std.specs.Prelude.{◌≡◌, ℕ, ◌<◌, length, slice_index};
 ghost use Rattle.meaning.specs.Lines.{follows};
-ghost use Rattle.meaning.specs.House.{goes};
 ghost use Rattle.meaning.specs.Calls.{all_there, all_to, falling, no_twice};
 ghost use Rattle.store.specs.Whole.{Sound, house};
-ghost use Rattle.checks.specs.Lists.{Copied, JourneyRead, LimitsRead};
+ghost use Rattle.checks.specs.Lists.{Copied, JourneyRead, LimitsRead, leg_there, legs_join};
 
 use store::Memory;
 use wire::{leg_at, leg_count};
@@ -58,27 +57,16 @@ pub fn read_journey(part: &[u8]) -> Option<Journey>
 
 // Do limits never rise.
 pub fn are_falling(limits: &[u32]) -> bool
-    requires { 1 ≤ length limits.now }
     ensures { result ≡ falling limits.now }
 {
-    for i in 0..limits.len() - 1 {
-        if limits[i] < limits[i + 1] {
-            return false;
-        }
-    }
-    true
+    limits.is_sorted_by(|dearer, cheaper| cheaper <= dearer)
 }
 
 // Is none of them above 1,000.
 pub fn are_small(limits: &[u32]) -> bool
     ensures { result ≡ all_to 1000 limits.now }
 {
-    for limit in limits {
-        if *limit > 1000 {
-            return false;
-        }
-    }
-    true
+    limits.iter().all(|limit| *limit <= 1000)
 }
 
 // The limits that a part lists; none where they are none, more than 26, rise, or are above 1,000.
@@ -99,66 +87,49 @@ pub fn read_limits(part: &[u8]) -> Option<LimitRow>
     Some(LimitRow { limits, count })
 }
 
+// Is leg i there, with the class.
+fn is_there(m: &Memory, class: u32, i: u32) -> bool
+    requires { Sound m.now }
+    ensures { result ≡ leg_there (house m.now).legs class i }
+{
+    (i as usize) < m.leg_count() && class < m.leg(i as usize).classes
+}
+
 // Are all these legs there, each with the class.
 pub fn are_there(m: &Memory, class: u32, journey: &[u32]) -> bool
     requires { Sound m.now }
     ensures { result ≡ all_there (house m.now).legs class journey.now }
 {
-    for x in 0..journey.len() {
-        let i = journey[x] as usize;
-        if i >= m.leg_count() {
-            return false;
-        }
-        let g = m.leg(i);
-        if class >= g.classes {
-            return false;
-        }
-    }
-    true
+    journey.iter().all(|i| is_there(m, class, *i))
+}
+
+// Does leg j begin where leg i ended, and leave late enough after it.
+fn joins(m: &Memory, i: u32, j: u32) -> bool
+    requires sound { Sound m.now }
+    requires first { i < length (house m.now).legs }
+    requires next { j < length (house m.now).legs }
+    ensures { result ≡ legs_join (house m.now).legs (house m.now).gap i j }
+{
+    let a = m.leg(i as usize);
+    let b = m.leg(j as usize);
+    a.to == b.from && a.arrives + m.limits().gap <= b.leaves
 }
 
 // Does each leg begin where the one before ended, and leave late enough.
 pub fn connect(m: &Memory, journey: &[u32]) -> bool
     requires sound { Sound m.now }
-    requires some { 1 ≤ length journey.now }
     requires there { (x : ℕ) → x < length journey.now → slice_index journey.now x < length (house m.now).legs }
     ensures { result ≡ follows (house m.now).legs (house m.now).gap journey.now }
 {
-    let gap = m.limits().gap;
-    for x in 0..journey.len() - 1 {
-        let a = m.leg(journey[x] as usize);
-        let b = m.leg(journey[x + 1] as usize);
-        if a.to != b.from {
-            return false;
-        }
-        if a.arrives + gap > b.leaves {
-            return false;
-        }
-    }
-    true
-}
-
-// Is a leg among those from a place on.
-fn comes(journey: &[u32], from: usize, i: u32) -> bool
-    requires { from ≤ length journey.now }
-    ensures { result ≡ goes (drop from journey.now) i }
-{
-    for y in from..journey.len() {
-        if journey[y] == i {
-            return true;
-        }
-    }
-    false
+    journey.windows(2).all(|pair| joins(m, pair[0], pair[1]))
 }
 
 // Is no leg there twice.
 pub fn are_apart(journey: &[u32]) -> bool
     ensures { result ≡ no_twice journey.now }
 {
-    for x in 0..journey.len() {
-        if comes(journey, x + 1, journey[x]) {
-            return false;
-        }
+    match journey.split_first() {
+        Some((i, others)) => !others.contains(i) && are_apart(others),
+        None => true,
     }
-    true
 }

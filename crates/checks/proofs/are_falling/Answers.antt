@@ -1,12 +1,7 @@
-use Rattle.std.proofs.Common.{sym, ◌∙◌, arith}
-use Rattle.checks.proofs.Steps.{falls_on, rises, falls_all}
+use Rattle.std.proofs.Common.{leb, rules}
+use Rattle.std.proofs.lemmas.Fn.{always_returns_same}
+use Rattle.checks.proofs.Steps.{sorted_is}
 use Rattle.checks.proofs.are_falling.Goals as goal
 
-pub returns-then-limits-i : goal.returns-then-limits-i
-returns-then-limits-i c = sym (c.loop-i.invariant ∙ rises c.args.limits.now c.loop-i.i (omega arith) (omega arith))
-
-pub loop-i-preserved : goal.loop-i-preserved
-loop-i-preserved c = c.loop-i.invariant ∙ falls_on c.args.limits.now c.loop-i.i (omega arith) (omega arith)
-
 pub returns : goal.returns
-returns c = sym (c.loop-i.invariant ∙ falls_all c.args.limits.now c.loop-i.i (omega arith))
+returns c = sorted_is c.is_sorted_by.result c.args.limits.now (c.is_sorted_by.ensures.cases (λ x y. leb y x) (always_returns_same _ _ _ (λ a r f k. search rules)))

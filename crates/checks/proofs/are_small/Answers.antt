@@ -1,12 +1,10 @@
-use Rattle.std.proofs.Common.{sym, ◌∙◌, arith}
-use Rattle.checks.proofs.Steps.{small_on, large, small_all}
+use Rattle.std.proofs.Common.{leb, sym, ◌∙◌, rules, tests}
+use Rattle.std.proofs.lemmas.Iterator.{YieldsList-from_slice}
+use Rattle.std.proofs.lemmas.Iterator.Search.{all_from_yields_List}
+use Rattle.checks.proofs.Steps.{small_is}
 use Rattle.checks.proofs.are_small.Goals as goal
 
-pub returns-then-limit-gt1000 : goal.returns-then-limit-gt1000
-returns-then-limit-gt1000 c = sym (c.loop-limit.invariant ∙ large 1000 c.args.limits.now c.loop-limit.limit-index c.loop-limit-test.true (omega arith))
-
-pub loop-limit-preserved : goal.loop-limit-preserved
-loop-limit-preserved c = c.loop-limit.invariant ∙ small_on 1000 c.args.limits.now c.loop-limit.limit-index c.loop-limit-test.true (omega arith)
-
 pub returns : goal.returns
-returns c = sym (c.loop-limit.invariant ∙ small_all 1000 c.args.limits.now c.loop-limit.limit-index c.loop-limit-test.false)
+returns c =
+    all_from_yields_List (λ x. leb x 1000) _ _ c.all.result c.all.ensures.ran (YieldsList-from_slice c.args.limits.now (cc)) (λ x b q k. search (rules, tests))
+    ∙ sym (small_is 1000 c.args.limits.now)

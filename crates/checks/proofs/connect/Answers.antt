@@ -1,36 +1,29 @@
-use Rattle.std.proofs.Common.{◌≡◌, ◌+◌, List, get_or, sym, ap, ◌∙◌, arith}
-use Rattle.meaning.specs.Lines.{Leg, leg}
-use Rattle.limits.specs.declared.Limits.{Limits}
+-- Each window's two legs are legs of the journey, so they are there; and all windows are all neighbours.
+use Rattle.std.proofs.Common.{◌≡◌, ◌<◌, length, get_or, refl, sym, ◌∙◌, subst, rules, tests}
+use Rattle.std.proofs.iter.Serving.{same}
+use Rattle.std.proofs.lemmas.Iterator.Consumers.{YieldsList-turn}
+use Rattle.std.proofs.lemmas.Iterator.Search.{all_from_yields_List}
 use Rattle.store.specs.Whole.{house}
-use Rattle.checks.proofs.Steps.{follows_on, elsewhere, too_soon, follows_all}
+use Rattle.checks.specs.Lists.{legs_join}
+use Rattle.checks.proofs.Steps.{Two, follows_is, twos_within, windows_two}
 use Rattle.checks.proofs.connect.Goals as goal
 
-pub returns-then-a-b : goal.returns-then-a-b
-returns-then-a-b c =
-    let ls : List Leg = (house c.args.m.now).legs in
-    let a : c.leg-a.result.to ≡ (leg ls (get_or c.args.journey.now c.loop-x.x 0)).to = ap (λ (g : Leg). g.to) c.leg-a.ensures.means in
-    let b : c.leg-b.result.from ≡ (leg ls (get_or c.args.journey.now (c.loop-x.x + 1) 0)).from = ap (λ (g : Leg). g.from) c.leg-b.ensures.means in
-    sym (c.loop-x.invariant ∙ elsewhere ls (house c.args.m.now).gap c.args.journey.now c.loop-x.x (omega arith) (λ e. c.if-a-b.true (a ∙ e ∙ sym b)))
-
-pub returns-then-a-gap : goal.returns-then-a-gap
-returns-then-a-gap c =
-    let gap : c.limits-gap.result.gap ≡ (house c.args.m.now).gap = ap (λ (l : Limits). l.gap) c.limits-gap.ensures in
-    let ls : List Leg = (house c.args.m.now).legs in
-    let a : c.leg-a.result.to ≡ (leg ls (get_or c.args.journey.now c.loop-x.x 0)).to = ap (λ (g : Leg). g.to) c.leg-a.ensures.means in
-    let b : c.leg-b.result.from ≡ (leg ls (get_or c.args.journey.now (c.loop-x.x + 1) 0)).from = ap (λ (g : Leg). g.from) c.leg-b.ensures.means in
-    let d : c.leg-a.result.arrives ≡ (leg ls (get_or c.args.journey.now c.loop-x.x 0)).arrives = ap (λ (g : Leg). g.arrives) c.leg-a.ensures.means in
-    let f : c.leg-b.result.leaves ≡ (leg ls (get_or c.args.journey.now (c.loop-x.x + 1) 0)).leaves = ap (λ (g : Leg). g.leaves) c.leg-b.ensures.means in
-    sym (c.loop-x.invariant ∙ too_soon ls (house c.args.m.now).gap c.args.journey.now c.loop-x.x (omega arith) (sym a ∙ c.if-a-b.false ∙ b) (omega arith))
-
-pub loop-x-preserved : goal.loop-x-preserved
-loop-x-preserved c =
-    let gap : c.limits-gap.result.gap ≡ (house c.args.m.now).gap = ap (λ (l : Limits). l.gap) c.limits-gap.ensures in
-    let ls : List Leg = (house c.args.m.now).legs in
-    let a : c.leg-a.result.to ≡ (leg ls (get_or c.args.journey.now c.loop-x.x 0)).to = ap (λ (g : Leg). g.to) c.leg-a.ensures.means in
-    let b : c.leg-b.result.from ≡ (leg ls (get_or c.args.journey.now (c.loop-x.x + 1) 0)).from = ap (λ (g : Leg). g.from) c.leg-b.ensures.means in
-    let d : c.leg-a.result.arrives ≡ (leg ls (get_or c.args.journey.now c.loop-x.x 0)).arrives = ap (λ (g : Leg). g.arrives) c.leg-a.ensures.means in
-    let f : c.leg-b.result.leaves ≡ (leg ls (get_or c.args.journey.now (c.loop-x.x + 1) 0)).leaves = ap (λ (g : Leg). g.leaves) c.leg-b.ensures.means in
-    c.loop-x.invariant ∙ follows_on ls (house c.args.m.now).gap c.args.journey.now c.loop-x.x (omega arith) (sym a ∙ c.if-a-b.false ∙ b) (omega arith)
+pub all-requires-clause-callable : goal.all-requires-clause-callable
+all-requires-clause-callable c = record {
+  at = λ xs t q x u y f s.
+      let is = c.args.journey.now in
+      let turn = YieldsList-turn (windows_two c.windows.result is c.windows.ensures.size c.windows.ensures.rest) xs t y _ u x refl s in
+      let two : Two x.now (length (house c.args.m.now).legs) = twos_within is x.now _ (length xs) c.requires.there turn.0 turn.1 in
+      let kept = same _ (λ p a r k. search rules) xs _ q f in
+      let long = two.long in
+      let first = two.first in
+      let next = two.next in
+      let sound = c.requires.sound in
+      rw kept (search rules);
+}
 
 pub returns : goal.returns
-returns c = sym (c.loop-x.invariant ∙ follows_all (house c.args.m.now).legs (house c.args.m.now).gap c.args.journey.now c.loop-x.x (omega arith))
+returns c =
+    all_from_yields_List (λ w. legs_join (house c.args.m.now).legs (house c.args.m.now).gap (get_or w 0 0) (get_or w 1 0)) _ _ c.all.result c.all.ensures.ran
+        (windows_two c.windows.result c.args.journey.now c.windows.ensures.size c.windows.ensures.rest) (λ x b q k. search (rules, tests))
+    ∙ sym (follows_is (house c.args.m.now).legs (house c.args.m.now).gap c.args.journey.now)
