@@ -2,39 +2,28 @@
 use Rattle.std.specs.Prelude.{◌≡◌, ℕ, ◌+◌, ◌<◌, ◌≤◌, Bool, true, false, ◌&&◌, List, length, take, Some, None, Option, ◌==◌, nat_le, nat_lt}
 use Rattle.meaning.specs.Lines.{Leg, leg}
 use Rattle.meaning.specs.Calls.{good_limits}
+use Rattle.arrayvec.specs.ArrayVec.{ArrayVec}
 use Rattle.wire.specs.Bytes.{numbers_in}
-use Rattle.checks.specs.declared.Journey.{Journey}
-use Rattle.checks.specs.declared.LimitRow.{LimitRow}
 
--- the numbers of a part stand at the front of some words, or are more than these
-abbrev pub Copied : List ℕ → List ℕ → Option ℕ → Type 0
-Copied part out (Some n) = (n ≡ length (numbers_in part)) × (n ≤ length out) × (take n out ≡ numbers_in part)
-Copied part out None = length out < length (numbers_in part)
+-- a list that was read: the numbers of a part, 1 to n of them
+pub record ListIs (n : ℕ) (part : List ℕ) (v : ArrayVec ℕ) : Type 0 where
+  pub is : v.items ≡ numbers_in part
+  pub some : 1 ≤ length (numbers_in part)
+  pub few : length (numbers_in part) ≤ n
 
--- a journey that was read: these legs, one to eight
-pub record JourneyIs (part : List ℕ) (j : Journey) : Type 0 where
-  pub some : 1 ≤ j.count
-  pub few : j.count ≤ 8
-  pub whole : length j.legs ≡ 8
-  pub counts : j.count ≡ length (numbers_in part)
-  pub legs : take j.count j.legs ≡ numbers_in part
-
--- a journey, or none where it has no legs or more than eight
-abbrev pub JourneyRead : List ℕ → Option Journey → Type 0
-JourneyRead part (Some j) = JourneyIs part j
-JourneyRead part None = (nat_le 1 (length (numbers_in part)) && nat_le (length (numbers_in part)) 8) ≡ false
+-- a list, or none where a part has no numbers or more than n
+abbrev pub ListRead : ℕ → List ℕ → Option (ArrayVec ℕ) → Type 0
+ListRead n part (Some v) = ListIs n part v
+ListRead n part None = (nat_le 1 (length (numbers_in part)) && nat_le (length (numbers_in part)) n) ≡ false
 
 -- limits that were read, and that a leg may have
-pub record LimitsAre (part : List ℕ) (r : LimitRow) : Type 0 where
+pub record LimitsAre (part : List ℕ) (v : ArrayVec ℕ) : Type 0 where
+  pub is : v.items ≡ numbers_in part
   pub good : good_limits (numbers_in part) ≡ true
-  pub few : r.count ≤ 26
-  pub whole : length r.limits ≡ 26
-  pub counts : r.count ≡ length (numbers_in part)
-  pub limits : take r.count r.limits ≡ numbers_in part
 
 -- limits, or none where a leg may not have them
-abbrev pub LimitsRead : List ℕ → Option LimitRow → Type 0
-LimitsRead part (Some r) = LimitsAre part r
+abbrev pub LimitsRead : List ℕ → Option (ArrayVec ℕ) → Type 0
+LimitsRead part (Some v) = LimitsAre part v
 LimitsRead part None = good_limits (numbers_in part) ≡ false
 
 -- is leg i there, with class c

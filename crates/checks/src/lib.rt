@@ -6,53 +6,49 @@ ghost use Rattle.std.specs.Prelude.{◌≡◌, ℕ, ◌<◌, length, slice_index
 ghost use Rattle.meaning.specs.Lines.{follows};
 ghost use Rattle.meaning.specs.Calls.{all_there, all_to, falling, no_twice};
 ghost use Rattle.store.specs.Whole.{Sound, house};
-ghost use Rattle.checks.specs.Lists.{Copied, JourneyRead, LimitsRead, leg_there, legs_join};
+ghost use Rattle.checks.specs.Lists.{LimitsRead, ListRead, leg_there, legs_join};
 
+use arrayvec::ArrayVec;
 use store::Memory;
 use wire::{leg_at, leg_count};
 
-// The legs of a journey, one to eight; what stands beyond their count means nothing.
-#[derive(Clone, Copy)]
-pub struct Journey {
-    pub legs: [u32; 8],
-    pub count: usize,
-}
+// The legs of a journey: one to eight.
+pub type Journey = ArrayVec<u32, 8>;
 
-// The limits of a leg, one to twenty-six; what stands beyond their count means nothing.
-#[derive(Clone, Copy)]
-pub struct LimitRow {
-    pub limits: [u32; 26],
-    pub count: usize,
-}
+// The limits of a leg: one to twenty-six.
+pub type LimitRow = ArrayVec<u32, 26>;
 
-// Copies the numbers of a part to the front of a slice, and says how many they are; none where they
-// are more than it has places.
-fn copy_numbers(part: &[u8], out: &mut [u32]) -> Option<usize>
-    ensures { Copied part.now out.new result }
+// The numbers that a part lists; none where they are none, or more than N.
+fn read_list<const N: usize>(part: &[u8]) -> Option<ArrayVec<u32, N>>
+    ensures { ListRead N part.now result }
 {
-    let count = leg_count(part);
-    if count > out.len() {
-        return None;
-    }
-    for i in 0..count {
+    let mut list = ArrayVec::new();
+    for i in 0..leg_count(part) {
         let Some(number) = leg_at(part, i) else {
             unreachable()
         };
-        out[i] = number;
+        list.try_push(number).ok()?;
     }
-    Some(count)
+    if list.is_empty() {
+        return None;
+    }
+    Some(list)
 }
 
 // The journey that a part lists; none where it has no legs or more than eight.
 pub fn read_journey(part: &[u8]) -> Option<Journey>
-    ensures { JourneyRead part.now result }
+    ensures { ListRead 8 part.now result }
 {
-    let mut legs = [0; 8];
-    let count = copy_numbers(part, &mut legs)?;
-    if count == 0 {
-        return None;
-    }
-    Some(Journey { legs, count })
+    read_list(part)
+}
+
+// The limits that a part lists; none where they are none, more than 26, rise, or are above 1,000.
+pub fn read_limits(part: &[u8]) -> Option<LimitRow>
+    ensures { LimitsRead part.now result }
+{
+    read_list(part).filter(|limits: &LimitRow| {
+        are_falling(limits.as_slice()) && are_small(limits.as_slice())
+    })
 }
 
 // Do limits never rise.
@@ -67,24 +63,6 @@ pub fn are_small(limits: &[u32]) -> bool
     ensures { result ≡ all_to 1000 limits.now }
 {
     limits.iter().all(|limit| *limit <= 1000)
-}
-
-// The limits that a part lists; none where they are none, more than 26, rise, or are above 1,000.
-pub fn read_limits(part: &[u8]) -> Option<LimitRow>
-    ensures { LimitsRead part.now result }
-{
-    let mut limits = [0; 26];
-    let count = copy_numbers(part, &mut limits)?;
-    if count == 0 {
-        return None;
-    }
-    if !are_falling(&limits[0..count]) {
-        return None;
-    }
-    if !are_small(&limits[0..count]) {
-        return None;
-    }
-    Some(LimitRow { limits, count })
 }
 
 // Is leg i there, with the class.
