@@ -1,11 +1,14 @@
 -- A call is done as the meaning says: refused for its range, refused by what the house holds, or taken.
-use Rattle.std.proofs.Common.{◌≡◌, ℕ, Bool, true, false, ◌||◌, eqb, sym, ap, ◌∙◌, arith}
-use Rattle.std.proofs.lemmas.Bool.{and_from, and_right, or_right, ne_eqb}
+use Rattle.std.proofs.Common.{◌≡◌, ℕ, Bool, true, false, ◌||◌, eqb, [], refl, sym, ap, ◌∙◌, subst}
+use Rattle.std.proofs.lemmas.Bool.{and_from, and_right, or_right}
 use Rattle.meaning.specs.Lines.{pick}
 use Rattle.meaning.specs.House.{House}
 use Rattle.meaning.specs.Calls.{Call, Answer, refused, call_number, good_fields, good_call, turned_by, turned, place, changed, told}
 use Rattle.limits.specs.Opening.{limits_mean}
 use Rattle.limits.specs.declared.Limits.{Limits}
+use Rattle.protocol.specs.Forms.{answer_of}
+use Rattle.protocol.specs.declared.Answer as code
+use Rattle.protocol.specs.declared.Answer.TheVariants as answer
 use Rattle.checks.specs.Meant.{Meant}
 
 module _ (l : Limits) (h : House) (x : Call) where
@@ -26,17 +29,18 @@ module _ (l : Limits) (h : House) (x : Call) where
   not_in_range g can e =
       ap (λ (b : Bool). pick b (turned_by (limits_mean can l) h x) 2) (and_right (eqb (call_number x) 255 || can (call_number x)) (good_fields x) g)
 
-  refused_by : (t p : ℕ) → (t ≡ 0 → ⊥) → place x t ≡ p → Turned t → Meant l h x (refused t p) h
-  refused_by t p z q f = record {
-    says = λ can e. sym (ap (λ (v : ℕ). pick (eqb v 0) (told h x) (refused v (place x v))) (f can e) ∙ (λ d. pick (ne_eqb t 0 z d) (told h x) (refused t (q d))));
-    leaves = λ can e. sym (ap (λ (v : ℕ). pick (eqb v 0) (changed h x) h) (f can e) ∙ ap (λ (b : Bool). pick b (changed h x) h) (ne_eqb t 0 z));
-  }
+  -- refused by t at place p, whatever way the answer was made
+  refused_by : (r : code.Answer) (t p : ℕ) → r ≡ answer.Refused t p → eqb t 0 ≡ false → place x t ≡ p → Turned t → Meant l h x (answer_of r []) h
+  refused_by r t p s z q f = subst (λ (a : code.Answer). Meant l h x (answer_of a []) h) (sym s) (record {
+    says = λ can e. sym (ap (λ (v : ℕ). pick (eqb v 0) (told h x) (refused v (place x v))) (f can e) ∙ (λ d. pick (z d) (told h x) (refused t (q d))));
+    leaves = λ can e. sym (ap (λ (v : ℕ). pick (eqb v 0) (changed h x) h) (f can e) ∙ ap (λ (b : Bool). pick b (changed h x) h) z);
+  })
 
-  pub out_of_range : good_fields x ≡ false → place x 2 ≡ 0 → Meant l h x (refused 2 0) h
-  out_of_range g q = refused_by 2 0 (λ z. omega arith) q (not_in_range g)
+  pub out_of_range : (r : code.Answer) → r ≡ answer.Refused 2 0 → place x 2 ≡ 0 → good_fields x ≡ false → Meant l h x (answer_of r []) h
+  out_of_range r s q g = refused_by r 2 0 s refl q (not_in_range g)
 
-  pub refuses : (t p : ℕ) → (t ≡ 0 → ⊥) → place x t ≡ p → good_fields x ≡ true → Checked t → Meant l h x (refused t p) h
-  refuses t p z q g f = refused_by t p z q (in_range t g f)
+  pub refuses : (r : code.Answer) (t p : ℕ) → r ≡ answer.Refused t p → eqb t 0 ≡ false → place x t ≡ p → good_fields x ≡ true → Checked t → Meant l h x (answer_of r []) h
+  refuses r t p s z q g f = refused_by r t p s z q (in_range t g f)
 
   pub takes : (a : Answer) (k : House) → good_fields x ≡ true → Checked 0 → a ≡ told h x → k ≡ changed h x → Meant l h x a k
   takes a k g f s t = record {

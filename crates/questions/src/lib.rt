@@ -12,20 +12,15 @@ ghost use Rattle.checks.specs.Meant.{Meant};
 
 use checks::{are_apart, are_there, connect, read_journey};
 use pricing::price;
-use protocol::Answer;
+use protocol::{Answer, Refusal};
 use seating::free_seats;
 use store::Memory;
 
 // The most classes that a leg can have.
 const CLASSES: u32 = 26;
 
-// What is out of range.
-const OUT_OF_RANGE: Answer = Answer::Refused {
-    refusal: 2,
-    place: 0,
-};
-
 // An answer, and how many numbers of the list beside it are its own.
+// Kept: (a) the list of an answer stands beside it in lent memory, so only its length comes with it.
 #[derive(Clone, Copy)]
 pub struct Reply {
     pub answer: Answer,
@@ -39,10 +34,7 @@ pub fn ask_booking(m: &Memory, number: u32) -> Answer
 {
     let k = number as usize;
     if k >= m.booking_count() {
-        return Answer::Refused {
-            refusal: 7,
-            place: 0,
-        };
+        return Refusal::NoBooking.at(0);
     }
     let b = m.booking(k);
     Answer::Stands {
@@ -58,21 +50,15 @@ pub fn ask_free(m: &Memory, leg: u32, class: u32) -> Answer
     ensures { Meant m.now.limits (house m.now) (free leg class) (answer_of result []) (house m.now) }
 {
     if class >= CLASSES {
-        return OUT_OF_RANGE;
+        return Refusal::OutOfRange.at(0);
     }
     let i = leg as usize;
     if i >= m.leg_count() {
-        return Answer::Refused {
-            refusal: 4,
-            place: 0,
-        };
+        return Refusal::NoLeg.at(0);
     }
     let g = m.leg(i);
     if class >= g.classes {
-        return Answer::Refused {
-            refusal: 4,
-            place: 0,
-        };
+        return Refusal::NoLeg.at(0);
     }
     Answer::Number {
         value: u64::from(free_seats(m, i, class)),
@@ -88,28 +74,16 @@ fn price_on(m: &Memory, class: u32, legs: &[u32]) -> Answer
     ensures { Meant m.now.limits (house m.now) (price_of class legs.now) (answer_of result []) (house m.now) }
 {
     if !are_there(m, class, legs) {
-        return Answer::Refused {
-            refusal: 4,
-            place: 1,
-        };
+        return Refusal::NoLeg.at(1);
     }
     if !connect(m, legs) {
-        return Answer::Refused {
-            refusal: 5,
-            place: 1,
-        };
+        return Refusal::NoJourney.at(1);
     }
     if !are_apart(legs) {
-        return Answer::Refused {
-            refusal: 5,
-            place: 1,
-        };
+        return Refusal::NoJourney.at(1);
     }
     let Some(cents) = price(m, class, legs) else {
-        return Answer::Refused {
-            refusal: 6,
-            place: 1,
-        };
+        return Refusal::NoFare.at(1);
     };
     Answer::Number { value: cents }
 }
@@ -120,12 +94,12 @@ pub fn ask_price(m: &Memory, class: u32, part: &[u8]) -> Answer
     ensures { Meant m.now.limits (house m.now) (price_of class (numbers_in part.now)) (answer_of result []) (house m.now) }
 {
     if class >= CLASSES {
-        return OUT_OF_RANGE;
+        return Refusal::OutOfRange.at(0);
     }
     let Some(journey) = read_journey(part) else {
-        return OUT_OF_RANGE;
+        return Refusal::OutOfRange.at(0);
     };
-    price_on(m, class, &journey.legs[0..journey.count])
+    price_on(m, class, journey.as_slice())
 }
 
 // What is taken on a leg: for each of its classes, in it and the cheaper ones, at the front of the
@@ -139,16 +113,13 @@ pub fn ask_leg(m: &Memory, leg: u32, sold: &mut [u64; 26]) -> Reply
     let i = leg as usize;
     if i >= m.leg_count() {
         return Reply {
-            answer: Answer::Refused {
-                refusal: 4,
-                place: 0,
-            },
+            answer: Refusal::NoLeg.at(0),
             listed: 0,
         };
     }
     let classes = m.leg(i).classes as usize;
-    for class in 0..classes {
-        sold[class] = u64::from(m.taken(i, class));
+    for (class, count) in sold[..classes].iter_mut().enumerate() {
+        *count = u64::from(m.taken(i, class));
     }
     Reply {
         answer: Answer::Sold,

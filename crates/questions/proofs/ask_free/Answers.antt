@@ -1,18 +1,23 @@
-use Rattle.std.proofs.Common.{◌∙◌, arith}
-use Rattle.store.specs.Whole.{house}
-use Rattle.questions.proofs.Asked.{no_such_class, no_leg, no_class, so_free}
+use Rattle.std.proofs.Common.{refl, ap, ◌∙◌, arith}
+use Rattle.std.proofs.lemmas.Bool.Decides.{nat_tests}
+use Rattle.meaning.specs.Calls.{number, good_fields, turned_by, place, changed, told}
+use Rattle.checks.proofs.Verdicts.{out_of_range, refuses, takes}
 use Rattle.questions.proofs.ask_free.Goals as goal
 
 pub returns-then-class-ge-CLASSES : goal.returns-then-class-ge-CLASSES
-returns-then-class-ge-CLASSES c = no_such_class c.args.m.now.limits (house c.args.m.now) c.args.leg c.args.class (omega (arith, c.if-class-ge-CLASSES.true))
+unfolding good_fields place
+returns-then-class-ge-CLASSES c = out_of_range _ _ _ _ c.at.ensures refl (grind (arith, nat_tests))
 
 pub returns-then-i-leg_count : goal.returns-then-i-leg_count
-returns-then-i-leg_count c = no_leg c.args.m.now.limits (house c.args.m.now) c.args.leg c.args.class (omega (arith, c.if-class-ge-CLASSES.false)) (omega (arith, c.leg_count.ensures))
+unfolding good_fields turned_by place
+returns-then-i-leg_count c = refuses _ _ _ _ _ _ c.at-then-i-leg_count.ensures refl refl (grind (arith, nat_tests)) (λ can. grind (arith, nat_tests, c.leg_count.ensures))
 
 pub returns-then-class-g : goal.returns-then-class-g
-returns-then-class-g c = no_class c.args.m.now.limits (house c.args.m.now) c.args.leg c.args.class (omega (arith, c.if-class-ge-CLASSES.false)) (omega (arith, c.leg-g.ensures.classes))
+unfolding good_fields turned_by place
+returns-then-class-g c = refuses _ _ _ _ _ _ c.at-then-class-g.ensures refl refl (grind (arith, nat_tests)) (λ can. grind (arith, nat_tests, c.leg-g.ensures.classes))
 
 pub returns : goal.returns
+unfolding good_fields turned_by changed told
 returns c =
-    so_free c.args.m.now.limits (house c.args.m.now) c.args.leg c.args.class (omega (arith, c.if-class-ge-CLASSES.false)) _ (omega (arith, c.leg_count.ensures)) (omega (arith, c.leg-g.ensures.classes))
-    (c.from.ensures ∙ c.free_seats.ensures)
+    takes _ _ _ _ _ (grind (arith, nat_tests)) (λ can. grind (arith, nat_tests, c.leg_count.ensures, c.leg-g.ensures.classes))
+        (ap number (c.from.ensures ∙ c.free_seats.ensures)) refl

@@ -1,31 +1,29 @@
 -- The checks of a price in their order.
-use Rattle.std.proofs.Common.{sym}
+use Rattle.std.proofs.Common.{sym, refl, ap, arith}
+use Rattle.std.proofs.lemmas.Bool.Decides.{nat_tests}
+use Rattle.meaning.specs.Calls.{number, good_fields, turned_by, place, changed, told}
 use Rattle.store.specs.Whole.{house}
 use Rattle.checks.proofs.Steps.{there_tells}
-use Rattle.questions.proofs.Asked.{price_range, legs_not_there, not_following, not_apart, no_fare, so_dear}
+use Rattle.checks.proofs.Verdicts.{refuses, takes}
 use Rattle.questions.proofs.price_on.Goals as goal
 
 pub returns-then-not-are_there : goal.returns-then-not-are_there
-returns-then-not-are_there c =
-    let g = price_range c.args.m.now.limits (house c.args.m.now) c.args.class c.args.legs.now c.requires.class c.requires.some c.requires.few in
-    legs_not_there c.args.m.now.limits (house c.args.m.now) c.args.class c.args.legs.now g (sym c.if-not-are_there.ensures)
+unfolding good_fields turned_by place
+returns-then-not-are_there c = refuses _ _ _ _ _ _ c.at.ensures refl refl (grind (arith, nat_tests)) (λ can. grind (arith, c.if-not-are_there.ensures))
 
 pub connect-requires : goal.connect-requires
 connect-requires c = record {
   sound = c.requires.sound;
-  some = c.requires.some;
   there = there_tells (house c.args.m.now).legs c.args.class c.args.legs.now (sym c.if-not-are_there.ensures);
 }
 
 pub returns-then-not-connect : goal.returns-then-not-connect
-returns-then-not-connect c =
-    let g = price_range c.args.m.now.limits (house c.args.m.now) c.args.class c.args.legs.now c.requires.class c.requires.some c.requires.few in
-    not_following c.args.m.now.limits (house c.args.m.now) c.args.class c.args.legs.now g (sym c.if-not-are_there.ensures) (sym c.if-not-connect.ensures)
+unfolding good_fields turned_by place
+returns-then-not-connect c = refuses _ _ _ _ _ _ c.at-then-not-connect.ensures refl refl (grind (arith, nat_tests)) (λ can. grind (arith, c.if-not-are_there.ensures, c.if-not-connect.ensures))
 
 pub returns-then-not-are_apart : goal.returns-then-not-are_apart
-returns-then-not-are_apart c =
-    let g = price_range c.args.m.now.limits (house c.args.m.now) c.args.class c.args.legs.now c.requires.class c.requires.some c.requires.few in
-    not_apart c.args.m.now.limits (house c.args.m.now) c.args.class c.args.legs.now g (sym c.if-not-are_there.ensures) (sym c.if-not-are_apart.ensures)
+unfolding good_fields turned_by place
+returns-then-not-are_apart c = refuses _ _ _ _ _ _ c.at-then-not-are_apart.ensures refl refl (grind (arith, nat_tests)) (λ can. grind (arith, c.if-not-are_there.ensures, c.if-not-connect.ensures, c.if-not-are_apart.ensures))
 
 pub price-requires : goal.price-requires
 price-requires c = record {
@@ -35,11 +33,11 @@ price-requires c = record {
 }
 
 pub returns-in_default : goal.returns-in_default
-returns-in_default c =
-    let g = price_range c.args.m.now.limits (house c.args.m.now) c.args.class c.args.legs.now c.requires.class c.requires.some c.requires.few in
-    no_fare c.args.m.now.limits (house c.args.m.now) c.args.class c.args.legs.now g (sym c.if-not-are_there.ensures) (sym c.if-not-connect.ensures) (sym c.if-not-are_apart.ensures) c.in_default.ensures.value
+unfolding good_fields turned_by place
+returns-in_default c = refuses _ _ _ _ _ _ c.at-in_default.ensures refl refl (grind (arith, nat_tests)) (λ can. grind (arith, nat_tests, c.if-not-are_there.ensures, c.if-not-connect.ensures, c.if-not-are_apart.ensures, c.in_default.ensures.value))
 
 pub returns : goal.returns
+unfolding good_fields turned_by changed told
 returns c =
-    let g = price_range c.args.m.now.limits (house c.args.m.now) c.args.class c.args.legs.now c.requires.class c.requires.some c.requires.few in
-    so_dear c.args.m.now.limits (house c.args.m.now) c.args.class c.args.legs.now g (sym c.if-not-are_there.ensures) (sym c.if-not-connect.ensures) (sym c.if-not-are_apart.ensures) _ c.in-Some.ensures.value
+    takes _ _ _ _ _ (grind (arith, nat_tests)) (λ can. grind (arith, nat_tests, c.if-not-are_there.ensures, c.if-not-connect.ensures, c.if-not-are_apart.ensures, c.in-Some.ensures.value))
+        (ap number (omega (arith, c.in-Some.ensures.value))) refl
