@@ -1,22 +1,88 @@
-// Checks of what a call brings: its list, read out of the part of the bytes in which it stands and
-// handed on as an array, and a journey's legs against the memory. Each is a test of the meaning.
+// Checks of what a call brings: its numbers' ranges, its list, read out of the part of the bytes in
+// which it stands, and a journey's legs against the memory. Each is a test of the meaning.
 #![tactic(auto)]
 
-ghost use Rattle.std.specs.Prelude.{◌≡◌, ℕ, ◌<◌, length, slice_index};
+ghost use Rattle.std.specs.Prelude.{◌≡◌, ℕ, ◌<◌, ◌≤◌, length, slice_index};
 ghost use Rattle.meaning.specs.Lines.{follows};
 ghost use Rattle.meaning.specs.Calls.{all_there, all_to, falling, no_twice};
 ghost use Rattle.store.specs.Whole.{Sound, house};
+ghost use Rattle.records.specs.Words.{leg_of};
+ghost use Rattle.checks.specs.Ranges.{fare_fits, schedule_fits, schedule_of, seats_fit};
 ghost use Rattle.checks.specs.Lists.{LimitsRead, ListRead, leg_there, legs_join};
 
 use arrayvec::ArrayVec;
+use records::{Fare, Leg};
 use store::Memory;
 use wire::{leg_at, leg_count};
+
+// Between which places a leg goes, and when it leaves and arrives.
+#[derive(Clone, Copy)]
+pub struct Schedule {
+    pub from: u32,
+    pub to: u32,
+    pub leaves: u32,
+    pub arrives: u32,
+}
+
+// So many seats in a class.
+#[derive(Clone, Copy)]
+pub struct Seats {
+    pub class: u32,
+    pub count: u32,
+}
 
 // The legs of a journey: one to eight.
 pub type Journey = ArrayVec<u32, 8>;
 
 // The limits of a leg: one to twenty-six.
 pub type LimitRow = ArrayVec<u32, 26>;
+
+impl Schedule {
+    // The schedule of a leg.
+    pub fn of(leg: &Leg) -> Schedule
+        ensures { result ≡ schedule_of leg.now }
+    {
+        Schedule {
+            from: leg.from,
+            to: leg.to,
+            leaves: leg.leaves,
+            arrives: leg.arrives,
+        }
+    }
+
+    // Are its places and ticks in range.
+    pub fn is_in_range(&self) -> bool
+        ensures { result ≡ schedule_fits self.now }
+    {
+        (self.from < 65_536 && self.to < 65_536)
+            && (self.leaves < self.arrives && self.arrives < 16_777_216)
+    }
+
+    // The leg of this schedule with just these limits, one for each of its classes.
+    pub fn with(&self, limits: &[u32]) -> Leg
+        requires { length limits.now ≤ 26 }
+        ensures { result ≡ leg_of self.now.from self.now.to self.now.leaves self.now.arrives limits.now }
+    {
+        Leg::new(self.from, self.to, self.leaves, self.arrives, limits)
+    }
+}
+
+impl Seats {
+    // Are their class and their number in range.
+    pub fn are_in_range(&self) -> bool
+        ensures { result ≡ seats_fit self.now.class self.now.count }
+    {
+        self.class < 26 && (1 <= self.count && self.count <= 9)
+    }
+}
+
+// Are a fare's numbers in range.
+pub fn fare_in_range(fare: &Fare) -> bool
+    ensures { result ≡ fare_fits fare.now }
+{
+    (fare.origin < 65_536 && fare.goal < 65_536)
+        && ((fare.class < 26 && (1 <= fare.most && fare.most <= 8)) && fare.price <= 100_000_000)
+}
 
 // The numbers that a part lists; none where they are none, or more than N.
 fn read_list<const N: usize>(part: &[u8]) -> Option<ArrayVec<u32, N>>
