@@ -1,7 +1,7 @@
 -- The range of a leg is that of its numbers and that of its limits.
 use Rattle.std.proofs.Common.{◌≡◌, ℕ, Bool, true, false, ◌&&◌, ltb, List, refl}
 use Rattle.meaning.specs.Calls.{opens, good_fields, good_limits}
-use Rattle.calls.specs.Ranges.{leg_fits}
+use Rattle.checks.specs.Ranges.{leg_fits}
 
 pub opens_range : (a b c d : ℕ) (ls : List ℕ) → good_fields (opens a b c d ls) ≡ (leg_fits a b c d && good_limits ls)
 unfolding good_fields

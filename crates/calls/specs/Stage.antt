@@ -1,5 +1,5 @@
--- What a call does at the stage that opens legs, files fares, books, and asks. Definitions only: nothing is assumed or proved here.
-use Rattle.std.specs.Prelude.{◌≡◌, ℕ, ◌<◌, ◌≤◌, true, false, ◌≢◌, ◌⊎◌, List, [], ◌∷◌, map, length, slice_index}
+-- What a call does at a stage of the house. Definitions only: nothing is assumed or proved here.
+use Rattle.std.specs.Prelude.{◌≡◌, ℕ, ◌<◌, ◌≤◌, Bool, true, false, ◌≢◌, ◌⊎◌, List, [], ◌∷◌, map, length, slice_index}
 use Rattle.std.specs.Borrow.{Bor}
 use Rattle.meaning.specs.Lines.{leg}
 use Rattle.meaning.specs.House.{House, goes, taken}
@@ -14,15 +14,31 @@ use Rattle.store.specs.Whole.{Lent, Sound, house}
 use Rattle.store.specs.declared.Memory.{Memory}
 use Rattle.wire.specs.Rows.{decoded}
 
--- the limits of a memory's house, at this stage
-abbrev pub stage : Memory → meaning.Limits
-stage m = limits_mean thin m.limits
+-- the limits of a memory's house, at the stage that can do these calls
+abbrev pub stage_at : (ℕ → Bool) → Memory → meaning.Limits
+stage_at can m = limits_mean can m.limits
 
--- a call was done: the answer, with the list beside it, and the house then are the meaning's; memory is sound, over the same slices, and its house is one that calls lead to
-pub record Done (m n : Memory) (x : Call) (a : Answer) (list : List ℕ) : Type 0 where
-  pub says : answer_of a list ≡ answer (stage m) (house m) x
-  pub leaves : house n ≡ after (stage m) (house m) x
-  pub reached : Reached (stage n) (house n)
+-- the same at the first stage
+abbrev pub stage : Memory → meaning.Limits
+stage m = stage_at thin m
+
+-- NOBODY WAITS FOR WHAT IS FREE in memory: booking rests on it, and every call keeps it
+abbrev pub Idle : Memory → Type 0
+Idle m = some_could (house m) (house m).bookings ≡ false
+
+-- a call was answered at a stage: the answer, with the list beside it, and the house then are the meaning's; memory is sound, over the same slices
+pub record Answered (can : ℕ → Bool) (m n : Memory) (x : Call) (a : Answer) (list : List ℕ) : Type 0 where
+  pub says : answer_of a list ≡ answer (stage_at can m) (house m) x
+  pub leaves : house n ≡ after (stage_at can m) (house m) x
+  pub sound : Sound n
+  pub lent : Lent m n
+
+-- a call was done at a stage: it was answered, nobody waits for what is free, and the house is one that calls lead to, if it was one
+pub record Done (can : ℕ → Bool) (m n : Memory) (x : Call) (a : Answer) (list : List ℕ) : Type 0 where
+  pub says : answer_of a list ≡ answer (stage_at can m) (house m) x
+  pub leaves : house n ≡ after (stage_at can m) (house m) x
+  pub idle : Idle n
+  pub reached : Reached (stage_at can m) (house m) → Reached (stage_at can n) (house n)
   pub sound : Sound n
   pub lent : Lent m n
 

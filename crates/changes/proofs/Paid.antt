@@ -1,16 +1,16 @@
--- What a payment is answered, and what it leaves, by the ways that its checks can go.
-use Rattle.std.proofs.Common.{◌≡◌, ℕ, ◌-◌, ◌*◌, ◌<◌, ◌≤◌, Bool, eqb, length, Some, None, Option, unwrap_or, sym, refl, ap, ◌∙◌, ap₂, arith}
+-- What a payment is answered, and what it leaves.
+use Rattle.std.proofs.Common.{◌≡◌, ℕ, ◌-◌, ◌*◌, ◌<◌, Bool, length, Some, None, Option, unwrap_or, sym, refl, ap, ◌∙◌, ap₂, arith}
 use Rattle.std.proofs.lemmas.List.{get_or-set_same}
-use Rattle.std.proofs.lemmas.Bool.{lt-ltb, le-ltb, eq-eqb, ne_eqb}
+use Rattle.std.proofs.lemmas.Bool.{lt-ltb, eq-eqb}
 use Rattle.meaning.specs.Lines.{pick, cost}
 use Rattle.meaning.specs.House.{Booking, House}
-use Rattle.meaning.specs.Calls.{pays, refused, number, good_fields, turned_by, place, changed, told, the_booking}
+use Rattle.meaning.specs.Calls.{pays, number, good_fields, turned_by, changed, told, the_booking}
 use Rattle.meaning.proofs.Serve.{none}
 use Rattle.limits.specs.declared.Limits.{Limits}
 use Rattle.pricing.specs.Prices.{coded}
 use Rattle.store.specs.Whole.{set_booking, settled}
 use Rattle.checks.specs.Meant.{Meant}
-use Rattle.checks.proofs.Verdicts.{refuses, takes}
+use Rattle.checks.proofs.Verdicts.{takes}
 
 -- a price that is not there counts as 0, as the meaning has it
 pub cents : (r : Option ℕ) → unwrap_or r 0 ≡ coded r - 1
@@ -26,15 +26,7 @@ module _ (l : Limits) (h : House) (k : ℕ) where
   abbrev b : Booking
   b = the_booking h k
 
-  pub no_booking : length h.bookings ≤ k → Meant l h (pays k) (refused 7 0) h
-  unfolding good_fields turned_by place
-  no_booking q = refuses l h (pays k) 7 0 (λ z. omega arith) refl refl (λ can. ap (λ (x : Bool). order x (eqb b.stands 1)) (le-ltb k (length h.bookings) q))
-
   module _ (q : k < length h.bookings) where
-    pub not_held : (b.stands ≡ 1 → ⊥) → Meant l h (pays k) (refused 8 0) h
-    unfolding good_fields turned_by place
-    not_held s = refuses l h (pays k) 8 0 (λ z. omega arith) refl refl (λ can. ap₂ order (lt-ltb k (length h.bookings) q) (ne_eqb b.stands 1 s))
-
     pub paid : (n : ℕ) (x : House) → b.stands ≡ 1 → n ≡ b.seats * (cost h.fares h.legs b.class b.legs - 1) → x ≡ set_booking h k (settled b 2 0 n) → Meant l h (pays k) (number n) x
     unfolding good_fields turned_by told changed
     paid n x s en ex =

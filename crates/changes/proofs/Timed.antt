@@ -1,10 +1,10 @@
 -- Time that goes by: the bookings are passed one after the other, and what is over is gone.
-use Rattle.std.proofs.Common.{◌≡◌, ℕ, zero, suc, ◌+◌, ◌<◌, ◌≤◌, Bool, true, false, List, [], ◌∷◌, length, get_or, take, set, sym, refl, ap, ◌∙◌, ap₂, arith}
+use Rattle.std.proofs.Common.{◌≡◌, ℕ, zero, suc, ◌+◌, ◌<◌, Bool, true, false, List, [], ◌∷◌, length, get_or, take, set, sym, refl, ap, ◌∙◌, ap₂, arith}
 use Rattle.std.proofs.lemmas.List.{get_or-take}
-use Rattle.std.proofs.lemmas.Bool.{lt-ltb, le-ltb}
+use Rattle.std.proofs.lemmas.Bool.{lt-ltb}
 use Rattle.meaning.specs.Lines.{pick, Leg, leg}
 use Rattle.meaning.specs.House.{Booking, House, first_leg, over, run_out, stand, with_bookings}
-use Rattle.meaning.specs.Calls.{ticks, refused, number, good_fields, turned_by, place, changed, told, the_booking}
+use Rattle.meaning.specs.Calls.{ticks, number, good_fields, turned_by, changed, told, the_booking}
 use Rattle.meaning.proofs.Serve.{at}
 use Rattle.limits.specs.declared.Limits.{Limits}
 use Rattle.records.specs.Means.{booking_means}
@@ -13,7 +13,7 @@ use Rattle.store.specs.Whole.{Lent, Sound, at_tick, house, set_booking}
 use Rattle.store.specs.declared.Memory.{Memory}
 use Rattle.store.proofs.Lents.{lent_none, lent_both}
 use Rattle.checks.specs.Meant.{Meant}
-use Rattle.checks.proofs.Verdicts.{out_of_range, refuses, takes}
+use Rattle.checks.proofs.Verdicts.{takes}
 use Rattle.changes.specs.Steps.{ended, gone_at, then_served, ticks_fit}
 
 -- the first leg of some
@@ -117,15 +117,7 @@ pub passing_ends : (m n : Memory) (t k : ℕ) → Passed m n t k → k ≡ lengt
 passing_ends m n t k w e = w.same ∙ ap (with_bookings (house m)) (ap (λ (j : ℕ). passed t (house m).legs j (house m).bookings) e ∙ passed_all t (house m).legs (house m).bookings)
 
 module _ (l : Limits) (h : House) (n : ℕ) where
-  pub bad_ticks : ticks_fit n ≡ false → Meant l h (ticks n) (refused 2 0) h
-  unfolding good_fields place
-  bad_ticks g = out_of_range l h (ticks n) g refl
-
   module _ (g : ticks_fit n ≡ true) where
-    pub too_late : 16777216 ≤ h.now + n → Meant l h (ticks n) (refused 9 0) h
-    unfolding good_fields turned_by place
-    too_late q = refuses l h (ticks n) 9 0 (λ z. omega arith) refl g (λ can. ap (λ (b : Bool). pick b 0 9) (le-ltb (h.now + n) 16777216 q))
-
     pub gone_by : (r t : ℕ) (a b x : House) → t < 16777216 → t ≡ h.now + n → r ≡ t → a ≡ at_tick h t → b ≡ gone_at t a → x ≡ then_served b → Meant l h (ticks n) (number r) x
     unfolding good_fields turned_by told changed
     gone_by r t a b x q et er ea eb ex =

@@ -18,7 +18,7 @@ ghost use Rattle.changes.specs.Steps.{ended, gone_at, then_served, ticks_fit};
 
 use checks::read_limits;
 use pricing::price;
-use protocol::Answer;
+use protocol::{Answer, Refusal};
 use seating::serve;
 use store::Memory;
 
@@ -34,36 +34,6 @@ const GONE: u32 = 3;
 // The tick that never comes.
 const END: u32 = 16_777_216;
 
-// What is out of range.
-const OUT_OF_RANGE: Answer = Answer::Refused {
-    refusal: 2,
-    place: 0,
-};
-
-// There is no such leg, or it has another number of limits.
-const NO_LEG: Answer = Answer::Refused {
-    refusal: 4,
-    place: 0,
-};
-
-// There is no such booking.
-const NO_BOOKING: Answer = Answer::Refused {
-    refusal: 7,
-    place: 0,
-};
-
-// A booking doesn't stand as the call asks for.
-const NOT_SO: Answer = Answer::Refused {
-    refusal: 8,
-    place: 0,
-};
-
-// Time would go beyond the last tick.
-const TOO_LATE: Answer = Answer::Refused {
-    refusal: 9,
-    place: 0,
-};
-
 // A booking that is held is paid, at the price of this moment for each of its seats; where there is
 // none, the meaning has 0. Nobody is served: a payment frees nothing.
 pub fn pay(m: &mut Memory, booking: u32) -> Answer
@@ -74,11 +44,11 @@ pub fn pay(m: &mut Memory, booking: u32) -> Answer
 {
     let k = booking as usize;
     if k >= m.booking_count() {
-        return NO_BOOKING;
+        return Refusal::NoBooking.at(0);
     }
     let b = m.booking(k);
     if b.stands != HELD {
-        return NOT_SO;
+        return Refusal::StandsOtherwise.at(0);
     }
     let seat = price(m, b.class, &b.legs[0..b.count as usize]).unwrap_or(0);
     let sum = u64::from(b.seats) * seat;
@@ -106,10 +76,10 @@ pub fn cancel(m: &mut Memory, booking: u32) -> Answer
 {
     let k = booking as usize;
     if k >= m.booking_count() {
-        return NO_BOOKING;
+        return Refusal::NoBooking.at(0);
     }
     if m.booking(k).stands >= GONE {
-        return NOT_SO;
+        return Refusal::StandsOtherwise.at(0);
     }
     m.set_stand(k, GONE, 0);
     serve_now(m);
@@ -126,17 +96,17 @@ pub fn change_limits(m: &mut Memory, leg: u32, part: &[u8]) -> Answer
     ensures sound { Sound m.new }
     ensures lent { Lent m.old m.new }
 {
-    let Some(row) = read_limits(part) else {
-        return OUT_OF_RANGE;
+    let Some(limits) = read_limits(part) else {
+        return Refusal::OutOfRange.at(0);
     };
     let i = leg as usize;
     if i >= m.leg_count() {
-        return NO_LEG;
+        return Refusal::NoLeg.at(0);
     }
-    if m.leg(i).classes as usize != row.count {
-        return NO_LEG;
+    if m.leg(i).classes as usize != limits.len() {
+        return Refusal::NoLeg.at(0);
     }
-    m.set_limits(i, &row.limits[0..row.count]);
+    m.set_limits(i, limits.as_slice());
     serve_now(m);
     Answer::Number {
         value: u64::from(leg),
@@ -166,6 +136,7 @@ fn is_over(m: &Memory, k: usize, tick: u32) -> bool
 }
 
 // Each booking that is over at a tick is gone.
+// Kept: (a) bookings are in lent words, so they are gone through by number.
 fn run_out(m: &mut Memory, tick: u32)
     requires { Sound m.old }
     ensures house { house m.new ≡ gone_at tick (house m.old) }
@@ -194,11 +165,11 @@ pub fn pass_time(m: &mut Memory, count: u32) -> Answer
     ensures lent { Lent m.old m.new }
 {
     if !ticks_in_range(count) {
-        return OUT_OF_RANGE;
+        return Refusal::OutOfRange.at(0);
     }
     let tick = m.clock() + count;
     if tick >= END {
-        return TOO_LATE;
+        return Refusal::LimitReached.at(0);
     }
     m.set_clock(tick);
     run_out(m, tick);

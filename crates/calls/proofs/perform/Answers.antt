@@ -1,110 +1,51 @@
 -- Each case is the call that it stands for, done as its own function says.
-use Rattle.std.proofs.Common.{◌≡◌, ℕ, List, [], take, sym, refl, subst, arith}
+use Rattle.std.proofs.Common.{refl}
 use Rattle.meaning.specs.Calls.{call_number}
-use Rattle.protocol.specs.Forms.{call_of}
-use Rattle.protocol.specs.declared.Answer.{Answer}
-use Rattle.protocol.specs.declared.Call.{Call}
-use Rattle.store.specs.declared.Memory.{Memory}
-use Rattle.wire.specs.Bytes.{numbers_in}
-use Rattle.calls.specs.Stage.{Done}
-use Rattle.calls.proofs.Performed.{idle, done, answered, pays_later, cancels_later, limits_later, ticks_later}
+use Rattle.calls.proofs.Performed.{answered, as_call, done, kept}
 use Rattle.calls.proofs.perform.Goals as goal
 
-as_call : (m n : Memory) (a : Answer) (list ns : List ℕ) (c d : Call) → c ≡ d → Done m n (call_of d ns) a list → Done m n (call_of c ns) a list
-as_call m n a list ns c d e x = subst (λ v. Done m n (call_of v ns) a list) (sym e) x
-
-pub book-answer-requires : goal.book-answer-requires
-book-answer-requires c = record { sound = c.requires.sound; idle = idle c.args.m.now c.requires.reached }
-
-pub returns-in-Open : goal.returns-in-Open
+pub returns-in-Open-clause-done : goal.returns-in-Open-clause-done
 unfolding call_number
-returns-in-Open c = record {
-  done = as_call c.args.m.now c.open_leg-answer.new.m c.open_leg-answer.result [] (numbers_in c.args.part.now) c.args.call _ c.in-Open.is
-      (done c.args.m.now c.open_leg-answer.new.m _ c.open_leg-answer.result [] refl c.requires.reached c.open_leg-answer.ensures.meant c.open_leg-answer.ensures.sound c.open_leg-answer.ensures.lent);
-  listed = omega arith;
-  behind = refl;
-}
+returns-in-Open-clause-done g c =
+    let e = c.open_leg-answer.ensures in
+    as_call _ _ _ _ _ _ _ _ c.in-Open.is (done _ _ _ _ _ _ (g.met.S.Stage.first 0 refl) c.requires.idle e.meant e.sound e.lent)
 
-pub returns-in-File : goal.returns-in-File
+pub returns-in-File-clause-done : goal.returns-in-File-clause-done
 unfolding call_number
-returns-in-File c = record {
-  done = as_call c.args.m.now c.file_fare-answer.new.m c.file_fare-answer.result [] (numbers_in c.args.part.now) c.args.call _ c.in-File.is
-      (done c.args.m.now c.file_fare-answer.new.m _ c.file_fare-answer.result [] refl c.requires.reached c.file_fare-answer.ensures.meant c.file_fare-answer.ensures.sound c.file_fare-answer.ensures.lent);
-  listed = omega arith;
-  behind = refl;
-}
+returns-in-File-clause-done g c =
+    let e = c.file_fare-answer.ensures in
+    as_call _ _ _ _ _ _ _ _ c.in-File.is (done _ _ _ _ _ _ (g.met.S.Stage.first 1 refl) c.requires.idle e.meant e.sound e.lent)
 
-pub returns-in-Book : goal.returns-in-Book
+pub returns-in-Book-clause-done : goal.returns-in-Book-clause-done
 unfolding call_number
-returns-in-Book c = record {
-  done = as_call c.args.m.now c.book-answer.new.m c.book-answer.result [] (numbers_in c.args.part.now) c.args.call _ c.in-Book.is
-      (done c.args.m.now c.book-answer.new.m _ c.book-answer.result [] refl c.requires.reached c.book-answer.ensures.meant c.book-answer.ensures.sound c.book-answer.ensures.lent);
-  listed = omega arith;
-  behind = refl;
-}
+returns-in-Book-clause-done g c =
+    let e = c.book-answer.ensures in
+    as_call _ _ _ _ _ _ _ _ c.in-Book.is (done _ _ _ _ _ _ (g.met.S.Stage.first 2 refl) c.requires.idle e.meant e.sound e.lent)
 
-pub returns-in-Free : goal.returns-in-Free
+pub returns-in-Free-clause-done : goal.returns-in-Free-clause-done
 unfolding call_number
-returns-in-Free c = record {
-  done = as_call c.args.m.now c.args.m.now c.ask_free-answer.result [] (numbers_in c.args.part.now) c.args.call _ c.in-Free.is
-      (answered c.args.m.now _ c.ask_free-answer.result [] refl c.requires.reached c.ask_free-answer.ensures c.requires.sound);
-  listed = omega arith;
-  behind = refl;
-}
+returns-in-Free-clause-done g c = as_call _ _ _ _ _ _ _ _ c.in-Free.is (answered _ _ _ _ _ (g.met.S.Stage.first 7 refl) c.requires.idle c.ask_free-answer.ensures c.requires.sound)
 
-pub returns-in-Price : goal.returns-in-Price
+pub returns-in-Price-clause-done : goal.returns-in-Price-clause-done
 unfolding call_number
-returns-in-Price c = record {
-  done = as_call c.args.m.now c.args.m.now c.ask_price-answer.result [] (numbers_in c.args.part.now) c.args.call _ c.in-Price.is
-      (answered c.args.m.now _ c.ask_price-answer.result [] refl c.requires.reached c.ask_price-answer.ensures c.requires.sound);
-  listed = omega arith;
-  behind = refl;
-}
+returns-in-Price-clause-done g c = as_call _ _ _ _ _ _ _ _ c.in-Price.is (answered _ _ _ _ _ (g.met.S.Stage.first 8 refl) c.requires.idle c.ask_price-answer.ensures c.requires.sound)
 
-pub returns-in-Booking : goal.returns-in-Booking
+pub returns-in-Booking-clause-done : goal.returns-in-Booking-clause-done
 unfolding call_number
-returns-in-Booking c = record {
-  done = as_call c.args.m.now c.args.m.now c.ask_booking-answer.result [] (numbers_in c.args.part.now) c.args.call _ c.in-Booking.is
-      (answered c.args.m.now _ c.ask_booking-answer.result [] refl c.requires.reached c.ask_booking-answer.ensures c.requires.sound);
-  listed = omega arith;
-  behind = refl;
-}
+returns-in-Booking-clause-done g c = as_call _ _ _ _ _ _ _ _ c.in-Booking.is (answered _ _ _ _ _ (g.met.S.Stage.first 9 refl) c.requires.idle c.ask_booking-answer.ensures c.requires.sound)
 
-pub returns-in-Leg : goal.returns-in-Leg
+pub returns-in-Leg-clause-done : goal.returns-in-Leg-clause-done
 unfolding call_number
-returns-in-Leg c =
-    let list = take c.ask_leg.result.listed c.ask_leg.new.sold in
-    record {
-      done = as_call c.args.m.now c.args.m.now c.ask_leg.result.answer list (numbers_in c.args.part.now) c.args.call _ c.in-Leg.is
-          (answered c.args.m.now _ c.ask_leg.result.answer list refl c.requires.reached c.ask_leg.ensures.meant c.requires.sound);
-      listed = c.ask_leg.ensures.listed;
-      behind = c.ask_leg.ensures.behind;
-    }
+returns-in-Leg-clause-done g c = as_call _ _ _ _ _ _ _ _ c.in-Leg.is (answered _ _ _ _ _ (g.met.S.Stage.first 10 refl) c.requires.idle c.ask_leg.ensures.meant c.requires.sound)
 
-pub returns-in-Pay : goal.returns-in-Pay
-returns-in-Pay c = record {
-  done = as_call c.args.m.now c.args.m.now _ [] (numbers_in c.args.part.now) c.args.call _ c.in-Pay.is (pays_later c.args.m.now c.requires.reached c.requires.sound c.in-Pay._booking);
-  listed = omega arith;
-  behind = refl;
-}
+pub returns-in-Pay-clause-done : goal.returns-in-Pay-clause-done
+returns-in-Pay-clause-done g c = as_call _ _ _ _ _ _ _ _ c.in-Pay.is (kept _ _ _ _ _ _ c.requires.idle c.pay-answer.ensures)
 
-pub returns-in-Cancel : goal.returns-in-Cancel
-returns-in-Cancel c = record {
-  done = as_call c.args.m.now c.args.m.now _ [] (numbers_in c.args.part.now) c.args.call _ c.in-Cancel.is (cancels_later c.args.m.now c.requires.reached c.requires.sound c.in-Cancel._booking);
-  listed = omega arith;
-  behind = refl;
-}
+pub returns-in-Cancel-clause-done : goal.returns-in-Cancel-clause-done
+returns-in-Cancel-clause-done g c = as_call _ _ _ _ _ _ _ _ c.in-Cancel.is (kept _ _ _ _ _ _ c.requires.idle c.cancel-answer.ensures)
 
-pub returns-in-Limits : goal.returns-in-Limits
-returns-in-Limits c = record {
-  done = as_call c.args.m.now c.args.m.now _ [] (numbers_in c.args.part.now) c.args.call _ c.in-Limits.is (limits_later c.args.m.now c.requires.reached c.requires.sound c.in-Limits._leg (numbers_in c.args.part.now));
-  listed = omega arith;
-  behind = refl;
-}
+pub returns-in-Limits-clause-done : goal.returns-in-Limits-clause-done
+returns-in-Limits-clause-done g c = as_call _ _ _ _ _ _ _ _ c.in-Limits.is (kept _ _ _ _ _ _ c.requires.idle c.change_limits-answer.ensures)
 
-pub returns-in-Ticks : goal.returns-in-Ticks
-returns-in-Ticks c = record {
-  done = as_call c.args.m.now c.args.m.now _ [] (numbers_in c.args.part.now) c.args.call _ c.in-Ticks.is (ticks_later c.args.m.now c.requires.reached c.requires.sound c.in-Ticks._count);
-  listed = omega arith;
-  behind = refl;
-}
+pub returns-in-Ticks-clause-done : goal.returns-in-Ticks-clause-done
+returns-in-Ticks-clause-done g c = as_call _ _ _ _ _ _ _ _ c.in-Ticks.is (kept _ _ _ _ _ _ c.requires.idle c.pass_time-answer.ensures)

@@ -4,13 +4,12 @@ use Rattle.std.proofs.lemmas.List.{get_or-map, length-map, take_all}
 use Rattle.meaning.specs.House.{House}
 use Rattle.meaning.specs.Calls as meaning
 use Rattle.meaning.specs.Calls.{Call, after, ran}
-use Rattle.meaning.specs.Promise.{thin}
 use Rattle.limits.specs.Opening.{limits_mean}
 use Rattle.store.specs.Whole.{house}
 use Rattle.store.proofs.Lents.{lent_none, lent_both}
 use Rattle.wire.specs.Rows.{decoded}
-use Rattle.calls.specs.Stage.{calls_of, stage}
-use Rattle.calls.proofs.Performed.{promised, rows_more}
+use Rattle.calls.specs.Stage.{calls_of, stage_at}
+use Rattle.calls.proofs.Performed.{idle, promised, rows_more}
 use Rattle.calls.proofs.run_rows.Goals as goal
 
 -- the call that a row is
@@ -21,26 +20,33 @@ row_call r = decoded r.now
 abbrev none : Bor (List ℕ)
 none = record { ref_ptr = (0, 0); now = [] }
 
+pub answer_row-requires : goal.answer_row-requires
+answer_row-requires g c = record { sound = c.loop-row.invariant.sound; idle = idle _ c.loop-row.m c.loop-row.invariant.reached }
+
 pub loop-row-init : goal.loop-row-init
 unfolding ran
-loop-row-init c = (refl, c.requires.reached, c.requires.sound, lent_none c.args.m.now)
+loop-row-init g c = record { ran = refl; reached = c.requires.reached; sound = c.requires.sound; lent = lent_none c.args.m.now }
 
 pub loop-row-preserved : goal.loop-row-preserved
-loop-row-preserved c =
+loop-row-preserved g c =
+    let can = g.S.Stage.can in
     let d = c.answer_row.ensures.done in
+    let i = c.loop-row.invariant in
     let xs = calls_of c.args.rows.now in
     let x = row_call (get_or c.args.rows.now c.loop-row.row-index none) in
-    let l : stage c.loop-row.m ≡ stage c.args.m.now = ap (limits_mean thin) c.loop-row.invariant.3.limits in
-    let step = ap₂ (λ (v : meaning.Limits) (h : House). after v h x) l c.loop-row.invariant.0 in
-    let more = rows_more (stage c.args.m.now) (house c.args.m.now) xs c.loop-row.row-index x (omega (arith, length-map c.args.rows.now row_call)) (sym (get_or-map row_call c.args.rows.now c.loop-row.row-index none x c.loop-row-test.true)) in
-    (d.leaves ∙ step ∙ sym more, d.reached, d.sound, lent_both c.args.m.now c.loop-row.m c.answer_row.new.m c.loop-row.invariant.3 d.lent)
+    let l : stage_at can c.loop-row.m ≡ stage_at can c.args.m.now = ap (limits_mean can) i.lent.limits in
+    let step = ap₂ (λ (v : meaning.Limits) (h : House). after v h x) l i.ran in
+    let more = rows_more (stage_at can c.args.m.now) (house c.args.m.now) xs c.loop-row.row-index x (omega (arith, length-map c.args.rows.now row_call)) (sym (get_or-map row_call c.args.rows.now c.loop-row.row-index none x c.loop-row-test.true)) in
+    record { ran = d.leaves ∙ step ∙ sym more; reached = d.reached i.reached; sound = d.sound; lent = lent_both c.args.m.now c.loop-row.m c.answer_row.new.m i.lent d.lent }
 
 pub returns : goal.returns
-returns c =
+returns g c =
+    let can = g.S.Stage.can in
+    let i = c.loop-row.invariant in
     let xs = calls_of c.args.rows.now in
     record {
-      ran = c.loop-row.invariant.0 ∙ ap (ran (stage c.args.m.now) (house c.args.m.now)) (take_all c.loop-row.row-index xs (omega (arith, length-map c.args.rows.now row_call)));
-      promised = promised (stage c.loop-row.m) (house c.loop-row.m) c.loop-row.invariant.1;
-      sound = c.loop-row.invariant.2;
-      lent = c.loop-row.invariant.3;
+      ran = i.ran ∙ ap (ran (stage_at can c.args.m.now) (house c.args.m.now)) (take_all c.loop-row.row-index xs (omega (arith, length-map c.args.rows.now row_call)));
+      promised = promised (stage_at can c.loop-row.m) (house c.loop-row.m) i.reached;
+      sound = i.sound;
+      lent = i.lent;
     }

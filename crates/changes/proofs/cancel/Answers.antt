@@ -1,27 +1,23 @@
 -- No such booking, gone already, or gone now and whoever waits served.
-use Rattle.std.proofs.Common.{◌≡◌, ap, arith}
+use Rattle.std.proofs.Common.{◌≡◌, refl, ap, arith}
+use Rattle.std.proofs.lemmas.Bool.Decides.{nat_tests}
 use Rattle.meaning.specs.House.{Booking}
-use Rattle.meaning.specs.Calls.{the_booking}
+use Rattle.meaning.specs.Calls.{good_fields, turned_by, place, the_booking}
 use Rattle.store.specs.Whole.{house}
-use Rattle.store.proofs.Lents.{lent_none, lent_both}
-use Rattle.changes.proofs.Cancelled.{no_booking, gone_already, cancelled}
+use Rattle.store.proofs.Lents.{lent_both}
+use Rattle.checks.proofs.Verdicts.{refuses}
+use Rattle.changes.proofs.Cancelled.{cancelled}
 use Rattle.changes.proofs.cancel.Goals as goal
 
-pub returns-then-k-booking_count : goal.returns-then-k-booking_count
-returns-then-k-booking_count c = record {
-  meant = no_booking c.args.m.now.limits (house c.args.m.now) c.args.booking (omega (arith, c.booking_count.ensures));
-  sound = c.requires;
-  lent = lent_none c.args.m.now;
-}
+pub returns-then-k-booking_count-clause-meant : goal.returns-then-k-booking_count-clause-meant
+unfolding good_fields turned_by place
+returns-then-k-booking_count-clause-meant c = refuses _ _ _ _ _ _ c.at.ensures refl refl refl (λ can. grind (arith, nat_tests, c.booking_count.ensures))
 
-pub returns-then-booking-ge-GONE : goal.returns-then-booking-ge-GONE
-returns-then-booking-ge-GONE c =
+pub returns-then-booking-ge-GONE-clause-meant : goal.returns-then-booking-ge-GONE-clause-meant
+unfolding good_fields turned_by place
+returns-then-booking-ge-GONE-clause-meant c =
     let stands : c.booking.result.stands ≡ (the_booking (house c.args.m.now) c.args.booking).stands = ap (λ (b : Booking). b.stands) c.booking.ensures.means in
-    record {
-      meant = gone_already c.args.m.now.limits (house c.args.m.now) c.args.booking (omega (arith, c.booking_count.ensures)) (omega (arith, c.if-booking-ge-GONE.true));
-      sound = c.requires;
-      lent = lent_none c.args.m.now;
-    }
+    refuses _ _ _ _ _ _ c.at-then-booking-ge-GONE.ensures refl refl refl (λ can. grind (arith, nat_tests, c.booking_count.ensures, stands))
 
 pub returns : goal.returns
 returns c =

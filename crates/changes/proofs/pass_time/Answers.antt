@@ -1,23 +1,20 @@
 -- Ticks out of range, a tick too late, or gone by, with what is over gone and whoever waits served.
-use Rattle.std.proofs.Common.{◌+◌, sym, arith}
+use Rattle.std.proofs.Common.{◌+◌, refl, sym, arith}
+use Rattle.std.proofs.lemmas.Bool.Decides.{nat_tests}
+use Rattle.meaning.specs.Calls.{good_fields, turned_by, place}
 use Rattle.store.specs.Whole.{house}
-use Rattle.store.proofs.Lents.{lent_none, lent_both}
-use Rattle.changes.proofs.Timed.{bad_ticks, too_late, gone_by}
+use Rattle.store.proofs.Lents.{lent_both}
+use Rattle.checks.proofs.Verdicts.{out_of_range, refuses}
+use Rattle.changes.proofs.Timed.{gone_by}
 use Rattle.changes.proofs.pass_time.Goals as goal
 
-pub returns-then-not-ticks_in_range : goal.returns-then-not-ticks_in_range
-returns-then-not-ticks_in_range c = record {
-  meant = bad_ticks c.args.m.now.limits (house c.args.m.now) c.args.count (sym c.if-not-ticks_in_range.ensures);
-  sound = c.requires;
-  lent = lent_none c.args.m.now;
-}
+pub returns-then-not-ticks_in_range-clause-meant : goal.returns-then-not-ticks_in_range-clause-meant
+unfolding good_fields place
+returns-then-not-ticks_in_range-clause-meant c = out_of_range _ _ _ _ c.at.ensures refl (sym c.if-not-ticks_in_range.ensures)
 
-pub returns-then-tick-ge-END : goal.returns-then-tick-ge-END
-returns-then-tick-ge-END c = record {
-  meant = too_late c.args.m.now.limits (house c.args.m.now) c.args.count (sym c.if-not-ticks_in_range.ensures) (omega (arith, c.clock.ensures, c.if-tick-ge-END.true));
-  sound = c.requires;
-  lent = lent_none c.args.m.now;
-}
+pub returns-then-tick-ge-END-clause-meant : goal.returns-then-tick-ge-END-clause-meant
+unfolding good_fields turned_by place
+returns-then-tick-ge-END-clause-meant c = refuses _ _ _ _ _ _ c.at-then-tick-ge-END.ensures refl refl (sym c.if-not-ticks_in_range.ensures) (λ can. grind (arith, nat_tests, c.clock.ensures, c.if-tick-ge-END.true))
 
 pub returns : goal.returns
 returns c =

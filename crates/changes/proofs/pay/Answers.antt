@@ -1,29 +1,24 @@
 -- No such booking, one that isn't held, or paid.
-use Rattle.std.proofs.Common.{◌≡◌, ℕ, ◌-◌, ◌*◌, ◌<◌, length, take, ap, ◌∙◌, arith}
+use Rattle.std.proofs.Common.{◌≡◌, ℕ, ◌-◌, ◌*◌, ◌<◌, length, take, refl, ap, ◌∙◌, arith}
+use Rattle.std.proofs.lemmas.Bool.Decides.{nat_tests}
 use Rattle.std.proofs.lemmas.List.{length-take-le, get_or-take}
 use Rattle.meaning.specs.Lines.{cost}
 use Rattle.meaning.specs.House.{Booking, House}
-use Rattle.meaning.specs.Calls.{the_booking}
+use Rattle.meaning.specs.Calls.{good_fields, turned_by, place, the_booking}
 use Rattle.store.specs.Whole.{house}
-use Rattle.store.proofs.Lents.{lent_none}
-use Rattle.changes.proofs.Paid.{cents, no_booking, not_held, paid}
+use Rattle.checks.proofs.Verdicts.{refuses}
+use Rattle.changes.proofs.Paid.{cents, paid}
 use Rattle.changes.proofs.pay.Goals as goal
 
-pub returns-then-k-booking_count : goal.returns-then-k-booking_count
-returns-then-k-booking_count c = record {
-  meant = no_booking c.args.m.now.limits (house c.args.m.now) c.args.booking (omega (arith, c.booking_count.ensures));
-  sound = c.requires;
-  lent = lent_none c.args.m.now;
-}
+pub returns-then-k-booking_count-clause-meant : goal.returns-then-k-booking_count-clause-meant
+unfolding good_fields turned_by place
+returns-then-k-booking_count-clause-meant c = refuses _ _ _ _ _ _ c.at.ensures refl refl refl (λ can. grind (arith, nat_tests, c.booking_count.ensures))
 
-pub returns-then-b-ne-HELD : goal.returns-then-b-ne-HELD
-returns-then-b-ne-HELD c =
+pub returns-then-b-ne-HELD-clause-meant : goal.returns-then-b-ne-HELD-clause-meant
+unfolding good_fields turned_by place
+returns-then-b-ne-HELD-clause-meant c =
     let stands : c.booking-b.result.stands ≡ (the_booking (house c.args.m.now) c.args.booking).stands = ap (λ (b : Booking). b.stands) c.booking-b.ensures.means in
-    record {
-      meant = not_held c.args.m.now.limits (house c.args.m.now) c.args.booking (omega (arith, c.booking_count.ensures)) (λ z. omega (arith, c.if-b-ne-HELD.true));
-      sound = c.requires;
-      lent = lent_none c.args.m.now;
-    }
+    refuses _ _ _ _ _ _ c.at-then-b-ne-HELD.ensures refl refl refl (λ can. grind (arith, nat_tests, c.booking_count.ensures, stands))
 
 pub price-requires : goal.price-requires
 price-requires c =
