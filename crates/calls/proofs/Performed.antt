@@ -54,8 +54,12 @@ module _ (can : ℕ → Bool) (m n : Memory) (x : Call) (a : Answer) (list : Lis
     lent = d.lent;
   }
 
+  -- what is done as the meaning says at every stage that can do the call is answered so at this one
+  pub meant : can (call_number x) ≡ true → Meant m.limits (house m) x (answer_of a list) (house n) → Sound n → Lent m n → Answered can m n x a list
+  meant e d s t = record { says = d.says can e; leaves = d.leaves can e; sound = s; lent = t }
+
   pub done : can (call_number x) ≡ true → Idle m → Meant m.limits (house m) x (answer_of a list) (house n) → Sound n → Lent m n → Done can m n x a list
-  done e i d s t = kept i (record { says = d.says can e; leaves = d.leaves can e; sound = s; lent = t })
+  done e i d s t = kept i (meant e d s t)
 
 -- a question leaves memory as it is
 pub answered : (can : ℕ → Bool) (m : Memory) (x : Call) (a : Answer) (list : List ℕ) → can (call_number x) ≡ true → Idle m → Meant m.limits (house m) x (answer_of a list) (house m) → Sound m → Done can m m x a list

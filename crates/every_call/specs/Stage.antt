@@ -1,14 +1,10 @@
--- What a call does, of all that there are. Definitions only: nothing is assumed or proved here.
-use Rattle.std.specs.Prelude.{◌≡◌, ℕ, Bool, false, List}
+-- Which calls the whole house does: all that there are. Definitions only: nothing is assumed or proved here.
+use Rattle.std.specs.Prelude.{ℕ, Bool, List}
 use Rattle.meaning.specs.Calls as meaning
-use Rattle.meaning.specs.Calls.{Call, after, answer}
 use Rattle.meaning.specs.Promise.{whole}
-use Rattle.meaning.specs.Statements.{some_could}
-use Rattle.limits.specs.Opening.{limits_mean}
-use Rattle.protocol.specs.Forms.{answer_of}
 use Rattle.protocol.specs.declared.Answer.{Answer}
-use Rattle.store.specs.Whole.{Lent, Sound, house}
 use Rattle.store.specs.declared.Memory.{Memory}
+use Rattle.calls.specs.Stage as calls
 
 -- WHICH CALLS CAN BE DONE: all of them
 abbrev pub stage_calls : ℕ → Bool
@@ -16,16 +12,12 @@ stage_calls = whole
 
 -- the limits of a memory's house, at this stage
 abbrev pub stage : Memory → meaning.Limits
-stage m = limits_mean stage_calls m.limits
+stage m = calls.stage_at stage_calls m
 
--- NOBODY WAITS FOR WHAT IS FREE in memory: booking rests on it, and every call keeps it
+-- nobody waits for what is free in memory
 abbrev pub Idle : Memory → Type 0
-Idle m = some_could (house m) (house m).bookings ≡ false
+Idle m = calls.Idle m
 
--- a call was done: the answer, with the list beside it, and the house then are the meaning's; memory is sound, over the same slices, and nobody waits for what is free
-pub record Done (m n : Memory) (x : Call) (a : Answer) (list : List ℕ) : Type 0 where
-  pub says : answer_of a list ≡ answer (stage m) (house m) x
-  pub leaves : house n ≡ after (stage m) (house m) x
-  pub idle : Idle n
-  pub sound : Sound n
-  pub lent : Lent m n
+-- a call was done at this stage
+abbrev pub Done : Memory → Memory → meaning.Call → Answer → List ℕ → Type 0
+Done m n x a list = calls.Done stage_calls m n x a list
