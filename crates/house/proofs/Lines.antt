@@ -2,9 +2,10 @@
 use Rattle.std.proofs.Common.{◌≡◌, ℕ, ◌≤◌, List, [], length, take, drop, Some, None, Err, Result, sym, refl, ap, ◌∙◌, subst, ⊎_elim, arith, lit≤}
 use Rattle.std.proofs.lemmas.List.{take_at}
 use Rattle.std.specs.declared.alloc.AllocError.{AllocError}
-use Rattle.calls.proofs.Performed.{not_read}
+use Rattle.calls.proofs.Performed.{idle, not_read}
 use Rattle.calls.specs.Stage.{Done, stage}
 use Rattle.meaning.specs.Calls.{call_number}
+use Rattle.meaning.specs.Promise.{thin}
 use Rattle.meaning.specs.Statements.{Reached}
 use Rattle.protocol.proofs.Fields.{written}
 use Rattle.protocol.specs.Forms.{call_of}
@@ -46,5 +47,5 @@ reads_as line list old new n c e w =
 pub not_a_call : (m : Memory) (line list : List ℕ) (n : NoCall) (r : Result Reply AllocError) → Reached (stage m) (house m) → Sound m →
     LineTold (Err n) (line_call line) → LineRefused n r → LineDone m m line list r
 not_a_call m line list (no_call.Unreadable place) r reached sound e f =
-    subst (LineDone m m line list) (sym f) (subst (λ x. Done m m x (answer.Refused 1 place) []) (sym e) (not_read m place reached sound), lit≤ tt)
+    subst (LineDone m m line list) (sym f) (subst (λ x. Done thin m m x (answer.Refused 1 place) []) (sym e) (not_read thin m (answer.Refused 1 place) place refl (idle (stage m) m reached) sound), lit≤ tt)
 not_a_call m line list no_call.NoMemory r reached sound e f = subst (LineDone m m line list) (sym f) refl

@@ -1,5 +1,6 @@
 -- What a line of a file of calls does. Definitions only: nothing is assumed or proved here.
 use Rattle.std.specs.Prelude.{◌≡◌, ℕ, ◌≤◌, List, take, Ok, Err, Result}
+use Rattle.meaning.specs.Promise.{thin}
 use Rattle.calls.specs.Stage.{Done}
 use Rattle.questions.specs.declared.Reply.{Reply}
 use Rattle.std.specs.declared.alloc.AllocError.{AllocError}
@@ -16,5 +17,5 @@ LineRefused no_call.NoMemory r = r ≡ Err (record {})
 
 -- the call that a line is was done; where there was no memory to read the line, nothing changed
 abbrev pub LineDone : Memory → Memory → List ℕ → List ℕ → Result Reply AllocError → Type 0
-LineDone m n line list (Ok reply) = Done m n (line_call line) reply.answer (take reply.listed list) × (reply.listed ≤ 26)
+LineDone m n line list (Ok reply) = Done thin m n (line_call line) reply.answer (take reply.listed list) × (reply.listed ≤ 26)
 LineDone m n line list (Err e) = n ≡ m

@@ -6,7 +6,7 @@ ghost use Rattle.calls.specs.Stage.{stage};
 ghost use Rattle.house.specs.Answering.{LineDone, LineRefused};
 ghost use Rattle.house.specs.Opening.{passed_over};
 
-use calls::answer_row;
+use calls::{FirstStage, answer_row};
 use protocol::Answer;
 use questions::Reply;
 use std::alloc::{AllocError, Global};
@@ -60,5 +60,5 @@ pub fn answer_line(
     let Some(length) = encode_call(read.call, read.list.as_slice(), &mut row) else {
         unreachable()
     };
-    Ok(answer_row(m, &row[..length], sold))
+    Ok(answer_row::<FirstStage>(m, &row[..length], sold))
 }

@@ -16,7 +16,8 @@ ghost use Rattle.journal_load.specs.Pages.{commit_told, head_of, Within};
 ghost use Rattle.journal_start.specs.Stages.{At, CommitGot, Next, Past, Ranges, SlotFrom, StageFits, Taken, WholePage, checkpoint_on, ends, found_log, journal_is, log_on, reading_of, ring_pages, slot_told, wanted};
 ghost use Rattle.journal_start.specs.Starting.{AcceptsHouses, chosen_slot};
 
-use every_call::answer_row;
+use calls::answer_row;
+use every_call::EveryCall;
 use flash::PageRead;
 use journal::{Turn, goes_round};
 use journal_load::{CommitRecord, call_in, load_checkpoint, read_commit};
@@ -342,7 +343,7 @@ fn take_logged(
         return None;
     };
     let mut sold = [0; 26];
-    let _ = answer_row(m, part, &mut sold);
+    let _ = answer_row::<EveryCall>(m, part, &mut sold);
     Some(replay_on(&limits, second, commit, n + 1))
 }
 

@@ -10,8 +10,9 @@ ghost use Rattle.every_call.specs.Stage.{Idle};
 ghost use Rattle.journal_steps.specs.Steps.{chip_limits};
 
 use anyhow::anyhow;
+use calls::answer_row;
 use chips::{MemoryChip, Said};
-use every_call::answer_row;
+use every_call::EveryCall;
 use flash::Power;
 use limits::{Limits, Sizes};
 use player::{Ending, run};
@@ -77,7 +78,7 @@ fn answer_line(heap: Global, m: &mut Memory, line: &[u8]) -> anyhow::Result<Said
         return Err(anyhow!("a call that can't be written"));
     };
     let mut sold = [0; 26];
-    let reply = answer_row(m, &row[..length], &mut sold);
+    let reply = answer_row::<EveryCall>(m, &row[..length], &mut sold);
     Ok(Said {
         answer: reply.answer,
         sold,

@@ -20,7 +20,8 @@ ghost use Rattle.journal_steps.specs.Steps.{Fits, chip_limits};
 ghost use Rattle.session.specs.Opening.{NeverThree, memory_fits, opening_place};
 ghost use Rattle.session.specs.Acts.{Begun, Changed, Ready, Stepped, Woken, at_rest};
 
-use every_call::answer_row;
+use calls::answer_row;
+use every_call::EveryCall;
 use journal_fill::{fill_call, fill_checkpoint, fill_commit};
 use journal_rows::checkpoint_pages;
 use journal_steps::{Act, Journal, Work};
@@ -161,7 +162,7 @@ impl Session {
         if !self.is_resting() {
             return false;
         }
-        let reply = answer_row(m, row, &mut self.sold);
+        let reply = answer_row::<EveryCall>(m, row, &mut self.sold);
         self.answer = reply.answer;
         self.listed = reply.listed;
         if !is_change(reply.answer, row) {
