@@ -28,7 +28,7 @@ pub returns-then-not-are_apart : goal.returns-then-not-are_apart
 returns-then-not-are_apart c = record { meant = not_apart c.args.m.now.limits (house c.args.m.now) c.args.class c.args.seats c.args.legs.now (books_range c.args.class c.args.seats c.args.legs.now c.requires.asks) (sym c.if-not-are_there.ensures) (sym c.if-not-are_apart.ensures); sound = c.requires.sound; lent = lent_none c.args.m.now }
 
 pub leg-requires : goal.leg-requires
-leg-requires c = record { sound = c.requires.sound; there = (there_tells (house c.args.m.now).legs c.args.class c.args.legs.now (sym c.if-not-are_there.ensures)) 0 c.requires.asks.some }
+leg-requires c = record { there = (there_tells (house c.args.m.now).legs c.args.class c.args.legs.now (sym c.if-not-are_there.ensures)) 0 c.requires.asks.some }
 
 pub returns-then-leg-clock : goal.returns-then-leg-clock
 returns-then-leg-clock c =
@@ -54,7 +54,6 @@ returns-in_default-next_number c =
 
 pub push_booking-requires : goal.push_booking-requires
 push_booking-requires c = record {
-  sound = c.requires.sound;
   space = omega (arith, c.in-Some-next_number.ensures.1, c.booking_count.ensures, ap (λ (l : Limits). l.bookings) c.limits.ensures);
   fine = subst (FineBooking (length (house c.args.m.now).legs)) (sym c.new.ensures)
       (new_booking_fine (house c.args.m.now).legs c.args.class c.args.seats c.args.legs.now (books_range c.args.class c.args.seats c.args.legs.now c.requires.asks) (sym c.if-not-are_there.ensures) (sym c.if-not-are_apart.ensures));
@@ -65,7 +64,7 @@ serve_newest-requires c =
     let h = house c.args.m.now in
     let new = asked c.args.class c.args.seats c.args.legs.now in
     let pushed : house c.push_booking.new.self ≡ plus_booking h new = c.push_booking.ensures.house ∙ ap (plus_booking h) (ap booking_means c.new.ensures ∙ booking_of_means c.args.class c.args.seats c.args.legs.now) in
-    record { sound = c.push_booking.ensures.sound; newest = subst Newcomer (sym pushed) (newcomer h new c.requires.idle refl) }
+    record { sound = c.push_booking.new.self.sound; newest = subst Newcomer (sym pushed) (newcomer h new c.requires.idle refl) }
 
 pub returns-then-serve_newest : goal.returns-then-serve_newest
 returns-then-serve_newest c =

@@ -35,7 +35,6 @@ returns-in_default c =
 pub push_fare-requires : goal.push_fare-requires
 unfolding good_fields
 push_fare-requires c = record {
-  sound = c.requires;
   space = omega (arith, c.in-Some.ensures.0, c.in-Some.ensures.1, c.fare_count.ensures, ap (λ (l : Limits). l.fares) c.limits.ensures);
   fine = fare_fine c.args.fare.now (sym c.if-not-fare_in_range.ensures);
 }
@@ -47,6 +46,6 @@ returns c =
     let n : c.in-Some.number ≡ length (house c.args.m.now).fares = omega (arith, c.in-Some.ensures.0, c.fare_count.ensures) in
     record {
       meant = takes c.args.m.now.limits (house c.args.m.now) (call c.args.fare.now) _ _ (sym c.if-not-fare_in_range.ensures) (λ can. ap (λ (b : Bool). pick b 0 9) free) (ap number n) c.push_fare.ensures.house;
-      sound = c.push_fare.ensures.sound;
+      sound = c.push_fare.new.self.sound;
       lent = c.push_fare.ensures.lent;
     }

@@ -73,7 +73,6 @@ push_leg-requires c =
     let row : take (c.in-Some.row.count - 0) c.in-Some.row.limits ≡ ls = ap (λ k. take k c.in-Some.row.limits) (omega arith) ∙ c.in-Some.ensures.limits in
     let new = c.new-leg.ensures ∙ ap (leg_of c.args.from c.args.to c.args.leaves c.args.arrives) row in
     record {
-      sound = c.requires;
       space = omega (arith, c.in-Some-next_number.ensures.1, c.leg_count.ensures, ap (λ (l : Limits). l.legs) c.limits.ensures);
       fine = subst FineLeg (sym new) (new_leg_fine c.args.from c.args.to c.args.leaves c.args.arrives ls good);
     }
@@ -93,6 +92,6 @@ returns c =
     record {
       meant = takes c.args.m.now.limits h (opens c.args.from c.args.to c.args.leaves c.args.arrives ls) _ _ good
           (λ can. ap₂ (λ (a b : Bool). pick a (pick b 0 9) 5) early free) (ap number n) (c.push_leg.ensures.house ∙ ap (plus_leg h) means);
-      sound = c.push_leg.ensures.sound;
+      sound = c.push_leg.new.self.sound;
       lent = c.push_leg.ensures.lent;
     }
