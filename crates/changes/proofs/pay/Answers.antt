@@ -47,6 +47,6 @@ returns c =
     record {
       meant = paid c.args.m.now.limits h c.args.booking (omega (arith, c.booking_count.ensures)) _ (house c.settle.new.self) (omega (arith, c.if-b-ne-HELD.false))
           ((λ d. seats d * seat d) ∙ ap (λ (b : Booking). b.seats * (cost h.fares h.legs b.class b.legs - 1)) means) c.settle.ensures.house;
-      sound = c.settle.ensures.sound;
+      sound = c.settle.new.self.sound;
       lent = c.settle.ensures.lent;
     }

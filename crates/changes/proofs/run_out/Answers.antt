@@ -16,7 +16,6 @@ is_over-requires c = record {
 
 pub set_stand-requires : goal.set_stand-requires
 set_stand-requires c = record {
-  sound = c.loop-k.invariant.sound;
   there = omega (arith, passing_length c.args.m.now c.loop-k.m c.args.tick c.loop-k.k c.loop-k.invariant, c.booking_count-k-end.ensures);
   stands = omega arith;
 }
@@ -30,7 +29,7 @@ loop-k-preserved c =
     let next : k < length (house m).bookings = omega (arith, c.booking_count-k-end.ensures) in
     elim c.if-is_over.branch [
       | goal.then-is_over w ↦ subst (λ (p : Memory). Passed m p t (k + 1)) (sym w.m-is)
-          (passing_gone m n t k c.loop-k.invariant next w.set_stand.new.self w.if-is_over.ensures w.set_stand.ensures.house w.set_stand.ensures.sound w.set_stand.ensures.lent)
+          (passing_gone m n t k c.loop-k.invariant next w.set_stand.new.self w.if-is_over.ensures w.set_stand.ensures.house w.set_stand.new.self.sound w.set_stand.ensures.lent)
       | goal.else-is_over w ↦ subst (λ (p : Memory). Passed m p t (k + 1)) (sym w.m-is) (passing_stays m n t k c.loop-k.invariant next w.if-is_over.ensures)
     ]
 
