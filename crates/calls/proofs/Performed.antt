@@ -22,7 +22,7 @@ use Rattle.protocol.specs.Forms.{answer_of, call_of}
 use Rattle.protocol.specs.declared.Call as code
 use Rattle.protocol.specs.declared.Answer.{Answer}
 use Rattle.protocol.specs.declared.Answer.TheVariants as answer
-use Rattle.store.specs.Whole.{Lent, Sound, house}
+use Rattle.store.specs.Whole.{Lent, house}
 use Rattle.store.specs.declared.Memory.{Memory}
 use Rattle.store.proofs.Lents.{lent_none}
 use Rattle.checks.specs.Meant.{Meant}
@@ -50,40 +50,38 @@ module _ (can : ℕ → Bool) (m n : Memory) (x : Call) (a : Answer) (list : Lis
     leaves = d.leaves;
     idle = subst (λ (h : House). some_could h h.bookings ≡ false) (sym d.leaves) (idle_after (stage_at can m) (house m) x i);
     reached = λ r. subst (λ (l : Limits). Reached (limits_mean can l) (house n)) (sym d.lent.limits) (reached_next (stage_at can m) (house m) (house n) x r d.leaves);
-    sound = d.sound;
     lent = d.lent;
   }
 
   -- what is done as the meaning says at every stage that can do the call is answered so at this one
-  pub meant : can (call_number x) ≡ true → Meant m.limits (house m) x (answer_of a list) (house n) → Sound n → Lent m n → Answered can m n x a list
-  meant e d s t = record { says = d.says can e; leaves = d.leaves can e; sound = s; lent = t }
+  pub meant : can (call_number x) ≡ true → Meant m.limits (house m) x (answer_of a list) (house n) → Lent m n → Answered can m n x a list
+  meant e d t = record { says = d.says can e; leaves = d.leaves can e; lent = t }
 
-  pub done : can (call_number x) ≡ true → Idle m → Meant m.limits (house m) x (answer_of a list) (house n) → Sound n → Lent m n → Done can m n x a list
-  done e i d s t = kept i (meant e d s t)
+  pub done : can (call_number x) ≡ true → Idle m → Meant m.limits (house m) x (answer_of a list) (house n) → Lent m n → Done can m n x a list
+  done e i d t = kept i (meant e d t)
 
 -- a question leaves memory as it is
-pub answered : (can : ℕ → Bool) (m : Memory) (x : Call) (a : Answer) (list : List ℕ) → can (call_number x) ≡ true → Idle m → Meant m.limits (house m) x (answer_of a list) (house m) → Sound m → Done can m m x a list
-answered can m x a list e i d s = done can m m x a list e i d s (lent_none m)
+pub answered : (can : ℕ → Bool) (m : Memory) (x : Call) (a : Answer) (list : List ℕ) → can (call_number x) ≡ true → Idle m → Meant m.limits (house m) x (answer_of a list) (house m) → Done can m m x a list
+answered can m x a list e i d = done can m m x a list e i d (lent_none m)
 
 -- what is done of a call is done of any that is the same
 pub as_call : (can : ℕ → Bool) (m n : Memory) (a : Answer) (list ns : List ℕ) (c d : code.Call) → c ≡ d → Done can m n (call_of d ns) a list → Done can m n (call_of c ns) a list
 as_call can m n a list ns c d e x = subst (λ (v : code.Call). Done can m n (call_of v ns) a list) (sym e) x
 
 -- a call that can't be done yet
-pub later : (m : Memory) (x : Call) (a : Answer) → a ≡ answer.Refused 2 0 → (eqb (call_number x) 255 || thin (call_number x)) ≡ false → place x 2 ≡ 0 → Sound m → Answered thin m m x a []
-later m x a r e p s =
+pub later : (m : Memory) (x : Call) (a : Answer) → a ≡ answer.Refused 2 0 → (eqb (call_number x) 255 || thin (call_number x)) ≡ false → place x 2 ≡ 0 → Answered thin m m x a []
+later m x a r e p =
     let turned : pick ((eqb (call_number x) 255 || thin (call_number x)) && good_fields x) (turned_by (stage m) (house m) x) 2 ≡ 2 = ap (λ (b : Bool). pick (b && good_fields x) (turned_by (stage m) (house m) x) 2) e in
     record {
       says = ap (λ (v : Answer). answer_of v []) r ∙ sym (ap (λ (t : ℕ). pick (eqb t 0) (told (house m) x) (refused t (place x t))) turned ∙ ap (refused 2) p);
       leaves = sym (ap (λ (t : ℕ). pick (eqb t 0) (changed (house m) x) (house m)) turned);
-      sound = s;
       lent = lent_none m;
     }
 
 -- bytes that are no call
-pub not_read : (can : ℕ → Bool) (m : Memory) (a : Answer) (n : ℕ) → a ≡ answer.Refused 1 n → Idle m → Sound m → Done can m m (garbled n) a []
+pub not_read : (can : ℕ → Bool) (m : Memory) (a : Answer) (n : ℕ) → a ≡ answer.Refused 1 n → Idle m → Done can m m (garbled n) a []
 unfolding call_number good_fields turned_by place
-not_read can m a n r i s = kept can m m (garbled n) a [] i (record { says = ap (λ (v : Answer). answer_of v []) r; leaves = refl; sound = s; lent = lent_none m })
+not_read can m a n r i = kept can m m (garbled n) a [] i (record { says = ap (λ (v : Answer). answer_of v []) r; leaves = refl; lent = lent_none m })
 
 -- what is promised of every house that calls lead to
 pub promised : (l : meaning.Limits) (h : House) → Reached l h → Promised l h

@@ -10,7 +10,7 @@ use Rattle.meaning.specs.Statements.{Cheapest, Reached, none_left, none_over, so
 use Rattle.limits.specs.Opening.{limits_mean}
 use Rattle.protocol.specs.Forms.{answer_of}
 use Rattle.protocol.specs.declared.Answer.{Answer}
-use Rattle.store.specs.Whole.{Lent, Sound, house}
+use Rattle.store.specs.Whole.{Lent, house}
 use Rattle.store.specs.declared.Memory.{Memory}
 use Rattle.wire.specs.Rows.{decoded}
 
@@ -26,11 +26,10 @@ stage m = stage_at thin m
 abbrev pub Idle : Memory → Type 0
 Idle m = some_could (house m) (house m).bookings ≡ false
 
--- a call was answered at a stage: the answer, with the list beside it, and the house then are the meaning's; memory is sound, over the same slices
+-- a call was answered at a stage: the answer, with the list beside it, and the house then are the meaning's; memory is over the same slices
 pub record Answered (can : ℕ → Bool) (m n : Memory) (x : Call) (a : Answer) (list : List ℕ) : Type 0 where
   pub says : answer_of a list ≡ answer (stage_at can m) (house m) x
   pub leaves : house n ≡ after (stage_at can m) (house m) x
-  pub sound : Sound n
   pub lent : Lent m n
 
 -- a call was done at a stage: it was answered, nobody waits for what is free, and the house is one that calls lead to, if it was one
@@ -39,7 +38,6 @@ pub record Done (can : ℕ → Bool) (m n : Memory) (x : Call) (a : Answer) (lis
   pub leaves : house n ≡ after (stage_at can m) (house m) x
   pub idle : Idle n
   pub reached : Reached (stage_at can m) (house m) → Reached (stage_at can n) (house n)
-  pub sound : Sound n
   pub lent : Lent m n
 
 -- the calls that rows of bytes are

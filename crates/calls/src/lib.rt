@@ -9,7 +9,7 @@ ghost use Rattle.meaning.specs.Calls.{books, cancels, files, limits_to, opens, p
 ghost use Rattle.meaning.specs.Promise.{thin};
 ghost use Rattle.meaning.specs.Statements.{Reached};
 ghost use Rattle.protocol.specs.Forms.{answer_of, call_of};
-ghost use Rattle.store.specs.Whole.{Lent, Sound, house};
+ghost use Rattle.store.specs.Whole.{Lent, house};
 ghost use Rattle.wire.specs.Bytes.{numbers_in};
 ghost use Rattle.wire.specs.Rows.{decoded};
 ghost use Rattle.checks.specs.Meant.{Meant};
@@ -36,9 +36,7 @@ fn next_number(count: usize, most: u32) -> Option<usize>
 
 // Opens a leg of a schedule, with the limits that a part lists.
 pub fn open_leg(m: &mut Memory, schedule: &Schedule, part: &[u8]) -> Answer
-    requires { Sound m.old }
     ensures meant { Meant m.old.limits (house m.old) (opens schedule.now.from schedule.now.to schedule.now.leaves schedule.now.arrives (numbers_in part.now)) (answer_of result []) (house m.new) }
-    ensures sound { Sound m.new }
     ensures lent { Lent m.old m.new }
 {
     if !schedule.is_in_range() {
@@ -61,9 +59,7 @@ pub fn open_leg(m: &mut Memory, schedule: &Schedule, part: &[u8]) -> Answer
 
 // Files a fare.
 pub fn file_fare(m: &mut Memory, fare: &Fare) -> Answer
-    requires { Sound m.old }
     ensures meant { Meant m.old.limits (house m.old) (files fare.now.origin fare.now.goal fare.now.class fare.now.most fare.now.price) (answer_of result []) (house m.new) }
-    ensures sound { Sound m.new }
     ensures lent { Lent m.old m.new }
 {
     if !fare_in_range(fare) {
@@ -81,11 +77,9 @@ pub fn file_fare(m: &mut Memory, fare: &Fare) -> Answer
 // Books so many seats in a class on these legs. Nobody waits for what is free, so the new booking is
 // the only one that can be served now.
 fn book_on(m: &mut Memory, seats: Seats, legs: &[u32]) -> Answer
-    requires sound { Sound m.old }
     requires idle { Idle m.old }
     requires asks { Asks seats.class seats.count legs.now }
     ensures meant { Meant m.old.limits (house m.old) (books seats.class seats.count legs.now) (answer_of result []) (house m.new) }
-    ensures sound { Sound m.new }
     ensures lent { Lent m.old m.new }
 {
     if !are_there(m, seats.class, legs) {
@@ -117,10 +111,8 @@ fn book_on(m: &mut Memory, seats: Seats, legs: &[u32]) -> Answer
 
 // Books so many seats in a class on the journey that a part lists.
 pub fn book(m: &mut Memory, seats: Seats, part: &[u8]) -> Answer
-    requires sound { Sound m.old }
     requires idle { Idle m.old }
     ensures meant { Meant m.old.limits (house m.old) (books seats.class seats.count (numbers_in part.now)) (answer_of result []) (house m.new) }
-    ensures sound { Sound m.new }
     ensures lent { Lent m.old m.new }
 {
     if !seats.are_in_range() {
@@ -139,23 +131,19 @@ pub trait Stage {
 
     // Pays a booking.
     fn pay(m: &mut Memory, booking: u32) -> Answer
-        requires { Sound m.old }
-        ensures { Answered can m.old m.new (pays booking) result [] };
+            ensures { Answered can m.old m.new (pays booking) result [] };
 
     // Cancels a booking.
     fn cancel(m: &mut Memory, booking: u32) -> Answer
-        requires { Sound m.old }
-        ensures { Answered can m.old m.new (cancels booking) result [] };
+            ensures { Answered can m.old m.new (cancels booking) result [] };
 
     // Gives a leg the limits that a part lists.
     fn change_limits(m: &mut Memory, leg: u32, part: &[u8]) -> Answer
-        requires { Sound m.old }
-        ensures { Answered can m.old m.new (limits_to leg (numbers_in part.now)) result [] };
+            ensures { Answered can m.old m.new (limits_to leg (numbers_in part.now)) result [] };
 
     // Lets so many ticks go by.
     fn pass_time(m: &mut Memory, count: u32) -> Answer
-        requires { Sound m.old }
-        ensures { Answered can m.old m.new (ticks count) result [] };
+            ensures { Answered can m.old m.new (ticks count) result [] };
 
     // What can be done at the first stage can be done at each.
     ghost first: { (k : ℕ) → thin k ≡ true → can k ≡ true };
@@ -189,7 +177,6 @@ impl Stage for FirstStage {
 // Does a call: answers it, and leaves the house as the meaning says of a stage. Nobody waits for what
 // is free then, if nobody did before, and the house is one that calls lead to, if it was one.
 pub fn perform<S: Stage>(m: &mut Memory, call: Call, part: &[u8], sold: &mut [u64; 26]) -> Reply
-    requires sound { Sound m.old }
     requires idle { Idle m.old }
     ensures done { Done S.can m.old m.new (call_of call (numbers_in part.now)) result.answer (take result.listed sold.new) }
     ensures listed { result.listed ≤ 26 }
@@ -248,7 +235,6 @@ pub fn perform<S: Stage>(m: &mut Memory, call: Call, part: &[u8], sold: &mut [u6
 // Does the call that a row of bytes is. Bytes that are no call are refused by 1, where they cease to
 // be one.
 pub fn answer_row<S: Stage>(m: &mut Memory, bytes: &[u8], sold: &mut [u64; 26]) -> Reply
-    requires sound { Sound m.old }
     requires idle { Idle m.old }
     ensures done { Done S.can m.old m.new (decoded bytes.now) result.answer (take result.listed sold.new) }
     ensures listed { result.listed ≤ 26 }
@@ -270,11 +256,9 @@ pub fn answer_row<S: Stage>(m: &mut Memory, bytes: &[u8], sold: &mut [u64; 26]) 
 // come, memory means the house that the meaning's run of them leads to, and all that is promised of
 // such a house holds of it.
 pub fn run_rows<S: Stage>(m: &mut Memory, rows: &[&[u8]])
-    requires sound { Sound m.old }
     requires reached { Reached (stage_at S.can m.old) (house m.old) }
     ensures ran { house m.new ≡ ran (stage_at S.can m.old) (house m.old) (calls_of rows.now) }
     ensures promised { Promised (stage_at S.can m.new) (house m.new) }
-    ensures sound { Sound m.new }
     ensures lent { Lent m.old m.new }
 {
     let mut sold = [0; 26];

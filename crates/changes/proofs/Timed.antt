@@ -9,7 +9,7 @@ use Rattle.meaning.proofs.Serve.{at}
 use Rattle.limits.specs.declared.Limits.{Limits}
 use Rattle.records.specs.Means.{booking_means}
 use Rattle.records.specs.declared.Booking as records
-use Rattle.store.specs.Whole.{Lent, Sound, at_tick, house, set_booking}
+use Rattle.store.specs.Whole.{Lent, at_tick, house, set_booking}
 use Rattle.store.specs.declared.Memory.{Memory}
 use Rattle.store.proofs.Lents.{lent_none, lent_both}
 use Rattle.checks.specs.Meant.{Meant}
@@ -78,13 +78,12 @@ module _ (t : ℕ) (ls : List Leg) where
 
 -- memory m where the first k bookings were passed, at n
 pub record Passed (m n : Memory) (t k : ℕ) : Type 0 where
-  pub sound : Sound n
   pub lent : Lent m n
   pub same : house n ≡ with_bookings (house m) (passed t (house m).legs k (house m).bookings)
 
-pub passing_begins : (m : Memory) (t : ℕ) → Sound m → Passed m m t 0
+pub passing_begins : (m : Memory) (t : ℕ) → Passed m m t 0
 unfolding passed
-passing_begins m t s = record { sound = s; lent = lent_none m; same = refl }
+passing_begins m t = record { lent = lent_none m; same = refl }
 
 -- there are as many as before
 pub passing_length : (m n : Memory) (t k : ℕ) → Passed m n t k → length (house n).bookings ≡ length (house m).bookings
@@ -98,9 +97,8 @@ module _ (m n : Memory) (t k : ℕ) (w : Passed m n t k) (q : k < length (house 
   over_same : (v : Bool) → v ≡ over t (house n).legs (the_booking (house n) k) → over t (house m).legs (the_booking (house m) k) ≡ v
   over_same v e = sym (e ∙ ap (λ (h : House). over t h.legs (the_booking (house n) k)) w.same ∙ ap (over t (house m).legs) next_same)
 
-  pub passing_gone : (p : Memory) → true ≡ over t (house n).legs (the_booking (house n) k) → house p ≡ set_booking (house n) k (stand (the_booking (house n) k) 3 0) → Sound p → Lent n p → Passed m p t (k + 1)
-  passing_gone p e ep s l = record {
-    sound = s;
+  pub passing_gone : (p : Memory) → true ≡ over t (house n).legs (the_booking (house n) k) → house p ≡ set_booking (house n) k (stand (the_booking (house n) k) 3 0) → Lent n p → Passed m p t (k + 1)
+  passing_gone p e ep l = record {
     lent = lent_both m n p w.lent l;
     same = ep ∙ ap₂ (λ (h : House) (b : Booking). set_booking h k (stand b 3 0)) w.same next_same
         ∙ ap (with_bookings (house m)) (passed_gone t (house m).legs k (house m).bookings q (over_same true e) ∙ ap (λ (j : ℕ). passed t (house m).legs j (house m).bookings) (omega arith));
@@ -108,7 +106,6 @@ module _ (m n : Memory) (t k : ℕ) (w : Passed m n t k) (q : k < length (house 
 
   pub passing_stays : false ≡ over t (house n).legs (the_booking (house n) k) → Passed m n t (k + 1)
   passing_stays e = record {
-    sound = w.sound;
     lent = w.lent;
     same = w.same ∙ ap (with_bookings (house m)) (passed_stays t (house m).legs k (house m).bookings q (over_same false e) ∙ ap (λ (j : ℕ). passed t (house m).legs j (house m).bookings) (omega arith));
   }

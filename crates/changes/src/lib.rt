@@ -11,7 +11,7 @@ ghost use Rattle.std.specs.Prelude.{◌≡◌, ◌<◌, [], length};
 ghost use Rattle.meaning.specs.House.{over};
 ghost use Rattle.meaning.specs.Calls.{cancels, limits_to, pays, the_booking, ticks};
 ghost use Rattle.protocol.specs.Forms.{answer_of};
-ghost use Rattle.store.specs.Whole.{Lent, Sound, house};
+ghost use Rattle.store.specs.Whole.{Lent, house};
 ghost use Rattle.wire.specs.Bytes.{numbers_in};
 ghost use Rattle.checks.specs.Meant.{Meant};
 ghost use Rattle.changes.specs.Steps.{ended, gone_at, then_served, ticks_fit};
@@ -37,9 +37,7 @@ const END: u32 = 16_777_216;
 // A booking that is held is paid, at the price of this moment for each of its seats; where there is
 // none, the meaning has 0. Nobody is served: a payment frees nothing.
 pub fn pay(m: &mut Memory, booking: u32) -> Answer
-    requires { Sound m.old }
     ensures meant { Meant m.old.limits (house m.old) (pays booking) (answer_of result []) (house m.new) }
-    ensures sound { Sound m.new }
     ensures lent { Lent m.old m.new }
 {
     let k = booking as usize;
@@ -58,9 +56,7 @@ pub fn pay(m: &mut Memory, booking: u32) -> Answer
 
 // Whoever waits is served, each held until now and the time that a hold lasts.
 fn serve_now(m: &mut Memory)
-    requires { Sound m.old }
     ensures house { house m.new ≡ then_served (house m.old) }
-    ensures sound { Sound m.new }
     ensures lent { Lent m.old m.new }
 {
     let until = m.clock() + m.limits().hold;
@@ -69,9 +65,7 @@ fn serve_now(m: &mut Memory)
 
 // A booking that isn't gone is gone, and whoever waits is served.
 pub fn cancel(m: &mut Memory, booking: u32) -> Answer
-    requires { Sound m.old }
     ensures meant { Meant m.old.limits (house m.old) (cancels booking) (answer_of result []) (house m.new) }
-    ensures sound { Sound m.new }
     ensures lent { Lent m.old m.new }
 {
     let k = booking as usize;
@@ -91,9 +85,7 @@ pub fn cancel(m: &mut Memory, booking: u32) -> Answer
 // From now on a leg has the limits that a part lists, as many as it had, and whoever waits is
 // served. What is taken stays.
 pub fn change_limits(m: &mut Memory, leg: u32, part: &[u8]) -> Answer
-    requires { Sound m.old }
     ensures meant { Meant m.old.limits (house m.old) (limits_to leg (numbers_in part.now)) (answer_of result []) (house m.new) }
-    ensures sound { Sound m.new }
     ensures lent { Lent m.old m.new }
 {
     let Some(limits) = read_limits(part) else {
@@ -123,7 +115,6 @@ fn has_ended(stands: u32, until: u32, leaves: u32, tick: u32) -> bool
 
 // Is booking k over at a tick. What is paid or gone never is.
 fn is_over(m: &Memory, k: usize, tick: u32) -> bool
-    requires sound { Sound m.now }
     requires there { k < length (house m.now).bookings }
     ensures { result ≡ over tick (house m.now).legs (the_booking (house m.now) k) }
 {
@@ -138,9 +129,7 @@ fn is_over(m: &Memory, k: usize, tick: u32) -> bool
 // Each booking that is over at a tick is gone.
 // Kept: (a) bookings are in lent words, so they are gone through by number.
 fn run_out(m: &mut Memory, tick: u32)
-    requires { Sound m.old }
     ensures house { house m.new ≡ gone_at tick (house m.old) }
-    ensures sound { Sound m.new }
     ensures lent { Lent m.old m.new }
 {
     for k in 0..m.booking_count() {
@@ -159,9 +148,7 @@ fn ticks_in_range(count: u32) -> bool
 
 // So many ticks go by: what is over then is gone, and whoever waits is served.
 pub fn pass_time(m: &mut Memory, count: u32) -> Answer
-    requires { Sound m.old }
     ensures meant { Meant m.old.limits (house m.old) (ticks count) (answer_of result []) (house m.new) }
-    ensures sound { Sound m.new }
     ensures lent { Lent m.old m.new }
 {
     if !ticks_in_range(count) {

@@ -5,7 +5,7 @@
 ghost use Rattle.std.specs.Prelude.{◌≡◌, ℕ, ◌<◌, ◌≤◌, length, slice_index};
 ghost use Rattle.meaning.specs.Lines.{follows};
 ghost use Rattle.meaning.specs.Calls.{all_there, all_to, falling, no_twice};
-ghost use Rattle.store.specs.Whole.{Sound, house};
+ghost use Rattle.store.specs.Whole.{house};
 ghost use Rattle.records.specs.Words.{leg_of};
 ghost use Rattle.checks.specs.Ranges.{fare_fits, schedule_fits, schedule_of, seats_fit};
 ghost use Rattle.checks.specs.Lists.{LimitsRead, ListRead, leg_there, legs_join};
@@ -133,7 +133,6 @@ pub fn are_small(limits: &[u32]) -> bool
 
 // Is leg i there, with the class.
 fn is_there(m: &Memory, class: u32, i: u32) -> bool
-    requires { Sound m.now }
     ensures { result ≡ leg_there (house m.now).legs class i }
 {
     (i as usize) < m.leg_count() && class < m.leg(i as usize).classes
@@ -141,7 +140,6 @@ fn is_there(m: &Memory, class: u32, i: u32) -> bool
 
 // Are all these legs there, each with the class.
 pub fn are_there(m: &Memory, class: u32, journey: &[u32]) -> bool
-    requires { Sound m.now }
     ensures { result ≡ all_there (house m.now).legs class journey.now }
 {
     journey.iter().all(|i| is_there(m, class, *i))
@@ -149,7 +147,6 @@ pub fn are_there(m: &Memory, class: u32, journey: &[u32]) -> bool
 
 // Does leg j begin where leg i ended, and leave late enough after it.
 fn joins(m: &Memory, i: u32, j: u32) -> bool
-    requires sound { Sound m.now }
     requires first { i < length (house m.now).legs }
     requires next { j < length (house m.now).legs }
     ensures { result ≡ legs_join (house m.now).legs (house m.now).gap i j }
@@ -161,7 +158,6 @@ fn joins(m: &Memory, i: u32, j: u32) -> bool
 
 // Does each leg begin where the one before ended, and leave late enough.
 pub fn connect(m: &Memory, journey: &[u32]) -> bool
-    requires sound { Sound m.now }
     requires there { (x : ℕ) → x < length journey.now → slice_index journey.now x < length (house m.now).legs }
     ensures { result ≡ follows (house m.now).legs (house m.now).gap journey.now }
 {

@@ -11,7 +11,7 @@
 ghost use Rattle.std.specs.Prelude.{◌≡◌, ℕ, suc, ◌+◌, ◌*◌, ◌<◌, ◌≤◌, length, drop, slice_index};
 ghost use Rattle.meaning.specs.Lines.{pick, cheaper, piece, cost_in, cost};
 ghost use Rattle.pricing.specs.Prices.{BestWay, There, coded, fits, stretch};
-ghost use Rattle.store.specs.Whole.{Sound, house};
+ghost use Rattle.store.specs.Whole.{house};
 
 use records::Fare;
 use store::Memory;
@@ -56,7 +56,6 @@ fn cheaper_of(a: Option<u64>, b: Option<u64>) -> Option<u64>
 
 // The stretch that some legs are as one piece.
 fn stretch_of(m: &Memory, class: u32, part: &[u32]) -> Stretch
-    requires sound { Sound m.now }
     requires some { 0 < length part.now }
     requires few { length part.now ≤ 8 }
     requires there { There (house m.now).legs part.now }
@@ -72,7 +71,6 @@ fn stretch_of(m: &Memory, class: u32, part: &[u32]) -> Stretch
 
 // The cheapest fare for some legs as one piece, of all fares.
 fn piece_price(m: &Memory, class: u32, part: &[u32]) -> Option<u64>
-    requires sound { Sound m.now }
     requires some { 0 < length part.now }
     requires few { length part.now ≤ 8 }
     requires there { There (house m.now).legs part.now }
@@ -91,7 +89,6 @@ fn piece_price(m: &Memory, class: u32, part: &[u32]) -> Option<u64>
 // with the cheapest for the legs left behind it, which are fewer. No legs cost nothing. Each piece
 // costs at most 100,000,000, so the sums are far from running over.
 fn cheapest(m: &Memory, class: u32, journey: &[u32]) -> Option<u64>
-    requires sound { Sound m.now }
     requires few { length journey.now ≤ 8 }
     requires there { There (house m.now).legs journey.now }
     ensures value { (n : ℕ) → length journey.now ≤ n → coded result ≡ cost_in n (house m.now).fares (house m.now).legs class journey.now }
@@ -119,7 +116,6 @@ fn cheapest(m: &Memory, class: u32, journey: &[u32]) -> Option<u64>
 // costs less. It is at most 800,000,000. That there are at most 8 legs, and all of them there, is for
 // the layer above, which refuses other journeys first.
 pub fn price(m: &Memory, class: u32, journey: &[u32]) -> Option<u64>
-    requires sound { Sound m.now }
     requires few { length journey.now ≤ 8 }
     requires there { There (house m.now).legs journey.now }
     ensures value { coded result ≡ cost (house m.now).fares (house m.now).legs class journey.now }

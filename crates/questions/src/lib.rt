@@ -6,7 +6,7 @@
 ghost use Rattle.std.specs.Prelude.{◌≡◌, ◌<◌, ◌≤◌, [], length, take, drop};
 ghost use Rattle.meaning.specs.Calls.{booking, free, leg_is, price_of};
 ghost use Rattle.protocol.specs.Forms.{answer_of};
-ghost use Rattle.store.specs.Whole.{Sound, house};
+ghost use Rattle.store.specs.Whole.{house};
 ghost use Rattle.wire.specs.Bytes.{numbers_in};
 ghost use Rattle.checks.specs.Meant.{Meant};
 
@@ -29,7 +29,6 @@ pub struct Reply {
 
 // How a booking stands, until when, and what was paid.
 pub fn ask_booking(m: &Memory, number: u32) -> Answer
-    requires { Sound m.now }
     ensures { Meant m.now.limits (house m.now) (booking number) (answer_of result []) (house m.now) }
 {
     let k = number as usize;
@@ -46,7 +45,6 @@ pub fn ask_booking(m: &Memory, number: u32) -> Answer
 
 // How many seats are free on a leg in a class.
 pub fn ask_free(m: &Memory, leg: u32, class: u32) -> Answer
-    requires { Sound m.now }
     ensures { Meant m.now.limits (house m.now) (free leg class) (answer_of result []) (house m.now) }
 {
     if class >= CLASSES {
@@ -67,7 +65,6 @@ pub fn ask_free(m: &Memory, leg: u32, class: u32) -> Answer
 
 // What a seat in a class costs on these legs.
 fn price_on(m: &Memory, class: u32, legs: &[u32]) -> Answer
-    requires sound { Sound m.now }
     requires class { class < 26 }
     requires some { 1 ≤ length legs.now }
     requires few { length legs.now ≤ 8 }
@@ -90,7 +87,6 @@ fn price_on(m: &Memory, class: u32, legs: &[u32]) -> Answer
 
 // What a seat in a class costs on the journey that a part lists.
 pub fn ask_price(m: &Memory, class: u32, part: &[u8]) -> Answer
-    requires { Sound m.now }
     ensures { Meant m.now.limits (house m.now) (price_of class (numbers_in part.now)) (answer_of result []) (house m.now) }
 {
     if class >= CLASSES {
@@ -105,7 +101,6 @@ pub fn ask_price(m: &Memory, class: u32, part: &[u8]) -> Answer
 // What is taken on a leg: for each of its classes, in it and the cheaper ones, at the front of the
 // lent numbers. What stands behind them stays.
 pub fn ask_leg(m: &Memory, leg: u32, sold: &mut [u64; 26]) -> Reply
-    requires { Sound m.now }
     ensures meant { Meant m.now.limits (house m.now) (leg_is leg) (answer_of result.answer (take result.listed sold.new)) (house m.now) }
     ensures listed { result.listed ≤ 26 }
     ensures behind { drop result.listed sold.new ≡ drop result.listed sold.old }

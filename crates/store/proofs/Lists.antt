@@ -8,7 +8,7 @@ use Rattle.records.specs.declared.Leg.{Leg}
 use Rattle.records.specs.declared.Fare.{Fare}
 use Rattle.records.specs.Means.{leg_means, fare_means, booking_means}
 use Rattle.records.specs.Words.{part, booking_read, leg_in, fare_in, booking_in}
-use Rattle.store.specs.Whole.{table, legs_of, fares_of, bookings_of}
+use Rattle.store.specs.Words.{table, legs_of, fares_of, bookings_of}
 use Rattle.store.proofs.Tables.{length_table, at_table, same_table, push_table, set_table}
 
 pub length_legs : (w : List ℕ) (n : ℕ) → length (legs_of w n) ≡ n

@@ -3,7 +3,7 @@ use Rattle.std.proofs.Common.{◌≡◌, ℕ, ◌+◌, ◌<◌, [], ◌∷◌, �
 use Rattle.std.proofs.lemmas.Bool.{cases_eq}
 use Rattle.std.proofs.lemmas.List.{length-set, get_or-set_same, get_or-set_other}
 use Rattle.std.proofs.lemmas.List.FromFn.{length-map-range_with_len, get_or-map-range_with_len, map-range_with_len_more, fill_by_all}
-use Rattle.store.specs.Whole.{table}
+use Rattle.store.specs.Words.{table}
 
 pub length_table : {X : Type 0} (f : ℕ → X) (n : ℕ) → length (table f n) ≡ n
 length_table f n = length-map-range_with_len f 0 n

@@ -9,17 +9,21 @@
 // change of how a booking stands at most 8 legs times 26 classes.
 #![tactic(auto)]
 
-ghost use Rattle.std.specs.Prelude.{◌≡◌, ℕ, ◌<◌, ◌≤◌, Bool, true, length, None, slice_index_or};
+ghost use Rattle.std.specs.Prelude.{◌≡◌, ℕ, ◌+◌, ◌*◌, ◌<◌, ◌≤◌, true, false, length, ◌≢◌, slice_index_or};
 ghost use Rattle.meaning.specs.Lines.{leg, Fare as MeantFare};
 ghost use Rattle.meaning.specs.House.{stand, taken};
-ghost use Rattle.meaning.specs.Calls.{all_to, falling, new_house, the_booking};
+ghost use Rattle.meaning.specs.Calls.{all_to, falling, the_booking};
 ghost use Rattle.records.specs.Means.{booking_means, fare_means, leg_means};
-ghost use Rattle.limits.specs.Opening.{lengths, limits_mean, misfit_of};
+ghost use Rattle.records.specs.Words.{booking_in};
+ghost use Rattle.counts.specs.Counts.{CanGive, CanTake, Ready, Recounted, counted};
 ghost use Rattle.store.specs.Range.{FineBooking, FineFare, FineLeg};
-ghost use Rattle.store.specs.Whole.{Lent, Sound, at_tick, house, plus_booking, plus_fare, plus_leg, set_booking, set_limits, settled};
+ghost use Rattle.store.specs.Words.{SoundWords};
+
+pub mod opening;
 
 use counts::{clear_counts, is_counted, load_count, recount};
 use limits::Limits;
+pub use opening::open;
 use records::{
     Booking, Fare, Leg, load_booking, load_fare, load_leg, store_booking, store_fare, store_leg,
 };
@@ -36,40 +40,67 @@ pub struct Memory<'a> {
     booked: usize,
     clock: u32,
     limits: Limits,
+    pub ghost sound: { SoundWords record {
+      legs = legs.now;
+      fares = fares.now;
+      bookings = bookings.now;
+      sums = sums.now;
+      opened = opened;
+      filed = filed;
+      booked = booked;
+      clock = clock;
+      limits = limits;
+    } },
 }
 
-// A new house in lent memory, for limits and slices that fit (`Limits::misfit` tells). Nothing is
-// written: what the slices held is never read again.
-pub fn open<'a>(
-    limits: Limits,
-    legs: &'a mut [u32],
-    fares: &'a mut [u32],
-    bookings: &'a mut [u32],
-    sums: &'a mut [u64],
-) -> Memory<'a>
-    requires { misfit_of limits (lengths legs.old fares.old bookings.old sums.old) ≡ None }
-    ensures house { (can : ℕ → Bool) → house result ≡ new_house (limits_mean can limits) }
-    ensures sound { Sound result }
-    ensures limits { result.limits ≡ limits }
-    ensures legs { (result.legs.now ≡ legs.old) × (result.legs.ghost_name ≡ legs.entry.ghost_name) }
-    ensures fares { (result.fares.now ≡ fares.old) × (result.fares.ghost_name ≡ fares.entry.ghost_name) }
-    ensures bookings { (result.bookings.now ≡ bookings.old) × (result.bookings.ghost_name ≡ bookings.entry.ghost_name) }
-    ensures sums { (result.sums.now ≡ sums.old) × (result.sums.ghost_name ≡ sums.entry.ghost_name) }
+// Makes this booking k, with its sum, and brings what is taken on its legs along, where it was or was
+// not counted before.
+fn put_booking(
+    legs: &mut [u32],
+    bookings: &mut [u32],
+    sums: &mut [u64],
+    k: usize,
+    b: &Booking,
+    was: bool,
+)
+    requires words { k * 22 + 22 ≤ length bookings.old }
+    requires sum { k < length sums.old }
+    requires ready { Ready legs.old b.now }
+    requires few { was ≡ false → CanTake legs.old b.now }
+    requires taken { was ≡ true → CanGive legs.old b.now }
+    ensures counts { Recounted legs.old legs.new b.now was (counted b.now.stands) }
+    ensures this { booking_in bookings.new sums.new k ≡ b.now }
+    ensures others { (j : ℕ) → (j ≢ k) → booking_in bookings.new sums.new j ≡ booking_in bookings.old sums.old j }
 {
-    Memory {
-        legs,
-        fares,
-        bookings,
-        sums,
-        opened: 0,
-        filed: 0,
-        booked: 0,
-        clock: 0,
-        limits,
-    }
+    recount(legs, b, was, is_counted(b.stands));
+    store_booking(bookings, k, b);
+    sums[k] = b.paid;
+}
+
+// One booking more, behind those that are there.
+fn add_booking(
+    legs: &mut [u32],
+    bookings: &mut [u32],
+    sums: &mut [u64],
+    booked: &mut usize,
+    b: &Booking,
+)
+    requires words { booked.old * 22 + 22 ≤ length bookings.old }
+    requires sum { booked.old < length sums.old }
+    requires ready { Ready legs.old b.now }
+    requires few { CanTake legs.old b.now }
+    ensures counts { Recounted legs.old legs.new b.now false (counted b.now.stands) }
+    ensures this { booking_in bookings.new sums.new booked.old ≡ b.now }
+    ensures others { (j : ℕ) → (j ≢ booked.old) → booking_in bookings.new sums.new j ≡ booking_in bookings.old sums.old j }
+    ensures one { booked.new ≡ booked.old + 1 }
+{
+    put_booking(legs, bookings, sums, *booked, b, false);
+    *booked += 1;
 }
 
 impl Memory<'_> {
+    ghost use Rattle.store.specs.Whole.{Lent, at_tick, house, plus_booking, plus_fare, plus_leg, set_booking, set_limits, settled};
+
     // How many legs there are.
     pub fn leg_count(&self) -> usize
         ensures { result ≡ length (house self.now).legs }
@@ -107,7 +138,6 @@ impl Memory<'_> {
 
     // Leg i.
     pub fn leg(&self, i: usize) -> Leg
-        requires sound { Sound self.now }
         requires there { i < length (house self.now).legs }
         ensures means { leg_means result ≡ leg (house self.now).legs i }
         ensures classes { result.classes ≡ length (leg (house self.now).legs i).limits }
@@ -119,7 +149,6 @@ impl Memory<'_> {
 
     // Fare k.
     pub fn fare(&self, k: usize) -> Fare
-        requires sound { Sound self.now }
         requires there { k < length (house self.now).fares }
         ensures means { (d : MeantFare) → fare_means result ≡ slice_index_or (house self.now).fares k d }
         ensures fine { FineFare result }
@@ -129,7 +158,6 @@ impl Memory<'_> {
 
     // Booking k.
     pub fn booking(&self, k: usize) -> Booking
-        requires sound { Sound self.now }
         requires there { k < length (house self.now).bookings }
         ensures means { booking_means result ≡ the_booking (house self.now) k }
         ensures fine { FineBooking (length (house self.now).legs) result }
@@ -141,7 +169,6 @@ impl Memory<'_> {
     // What is taken on leg i in a class and the cheaper ones: one word is read. It is few enough that
     // a booking's seats can be added.
     pub fn taken(&self, i: usize, class: usize) -> u32
-        requires sound { Sound self.now }
         requires there { i < length (house self.now).legs }
         requires class { class < 26 }
         ensures is { result ≡ taken (house self.now).bookings i class }
@@ -152,11 +179,9 @@ impl Memory<'_> {
 
     // One leg more, at the end, on which nothing is taken.
     pub fn push_leg(&mut self, g: &Leg)
-        requires sound { Sound self.old }
         requires space { length (house self.old).legs < self.old.limits.legs }
         requires fine { FineLeg g.now }
         ensures house { house self.new ≡ plus_leg (house self.old) (leg_means g.now) }
-        ensures sound { Sound self.new }
         ensures lent { Lent self.old self.new }
     {
         let i = self.opened;
@@ -167,11 +192,9 @@ impl Memory<'_> {
 
     // One fare more, at the end.
     pub fn push_fare(&mut self, f: &Fare)
-        requires sound { Sound self.old }
         requires space { length (house self.old).fares < self.old.limits.fares }
         requires fine { FineFare f.now }
         ensures house { house self.new ≡ plus_fare (house self.old) (fare_means f.now) }
-        ensures sound { Sound self.new }
         ensures lent { Lent self.old self.new }
     {
         let k = self.filed;
@@ -181,30 +204,21 @@ impl Memory<'_> {
 
     // One booking more, at the end, however it stands; what is taken on its legs follows.
     pub fn push_booking(&mut self, b: &Booking)
-        requires sound { Sound self.old }
         requires space { length (house self.old).bookings < self.old.limits.bookings }
         requires fine { FineBooking (length (house self.old).legs) b.now }
         ensures house { house self.new ≡ plus_booking (house self.old) (booking_means b.now) }
-        ensures sound { Sound self.new }
         ensures lent { Lent self.old self.new }
     {
-        let k = self.booked;
-        let is = is_counted(b.stands);
-        recount(self.legs, b, false, is);
-        store_booking(self.bookings, k, b);
-        self.sums[k] = b.paid;
-        self.booked = k + 1;
+        add_booking(self.legs, self.bookings, self.sums, &mut self.booked, b);
     }
 
     // Other limits for leg i, as many as it has. What is taken stays.
     pub fn set_limits(&mut self, i: usize, limits: &[u32])
-        requires sound { Sound self.old }
         requires there { i < length (house self.old).legs }
         requires classes { length limits.now ≡ length (leg (house self.old).legs i).limits }
         requires falling { falling limits.now ≡ true }
         requires small { all_to 1000 limits.now ≡ true }
         ensures house { house self.new ≡ set_limits (house self.old) i limits.now }
-        ensures sound { Sound self.new }
         ensures lent { Lent self.old self.new }
     {
         let mut g = self.leg(i);
@@ -215,31 +229,24 @@ impl Memory<'_> {
     // How booking k stands from now on, until when, and what was paid; what is taken on its legs
     // follows.
     pub fn settle(&mut self, k: usize, stands: u32, until: u32, paid: u64)
-        requires sound { Sound self.old }
         requires there { k < length (house self.old).bookings }
         requires stands { stands ≤ 3 }
         ensures house { house self.new ≡ set_booking (house self.old) k (settled (the_booking (house self.old) k) stands until paid) }
-        ensures sound { Sound self.new }
         ensures lent { Lent self.old self.new }
     {
         let mut b = self.booking(k);
         let was = is_counted(b.stands);
-        let is = is_counted(stands);
-        recount(self.legs, &b, was, is);
         b.stands = stands;
         b.until = until;
         b.paid = paid;
-        store_booking(self.bookings, k, &b);
-        self.sums[k] = paid;
+        put_booking(self.legs, self.bookings, self.sums, k, &b, was);
     }
 
     // How booking k stands from now on, and until when; what was paid stays.
     pub fn set_stand(&mut self, k: usize, stands: u32, until: u32)
-        requires sound { Sound self.old }
         requires there { k < length (house self.old).bookings }
         requires stands { stands ≤ 3 }
         ensures house { house self.new ≡ set_booking (house self.old) k (stand (the_booking (house self.old) k) stands until) }
-        ensures sound { Sound self.new }
         ensures lent { Lent self.old self.new }
     {
         let b = self.booking(k);
@@ -248,10 +255,8 @@ impl Memory<'_> {
 
     // The tick it is from now on. Nothing else changes: who runs out is for the layers above.
     pub fn set_clock(&mut self, tick: u32)
-        requires sound { Sound self.old }
         requires range { tick < 16777216 }
         ensures house { house self.new ≡ at_tick (house self.old) tick }
-        ensures sound { Sound self.new }
         ensures lent { Lent self.old self.new }
     {
         self.clock = tick;

@@ -23,7 +23,6 @@ book_on-requires c =
     let p = and_parts _ _ (sym c.if-not-are_in_range.ensures) in
     let q = and_parts _ _ p.1 in
     record {
-      sound = c.requires.sound;
       idle = c.requires.idle;
       asks = record { class = ltb-true _ _ p.0; least = leb-true _ _ q.0; seats = leb-true _ _ q.1; some = subst (λ v. 1 ≤ length v) (sym e) c.in-Some.ensures.some; few = subst (λ v. length v ≤ 8) (sym e) c.in-Some.ensures.few };
     }

@@ -23,7 +23,7 @@ unfolding turned_by place
 returns-then-not-are_there-clause-meant c = refuses _ _ _ _ _ _ c.at.ensures refl refl (books_range _ _ _ c.requires.asks) (λ can. grind (arith, c.if-not-are_there.ensures))
 
 pub connect-requires : goal.connect-requires
-connect-requires c = record { sound = c.requires.sound; there = there_tells (house c.args.m.now).legs c.args.seats.class c.args.legs.now (sym c.if-not-are_there.ensures) }
+connect-requires c = record { there = there_tells (house c.args.m.now).legs c.args.seats.class c.args.legs.now (sym c.if-not-are_there.ensures) }
 
 pub returns-then-not-connect-clause-meant : goal.returns-then-not-connect-clause-meant
 unfolding turned_by place
@@ -34,7 +34,7 @@ unfolding turned_by place
 returns-then-not-are_apart-clause-meant c = refuses _ _ _ _ _ _ c.at-then-not-are_apart.ensures refl refl (books_range _ _ _ c.requires.asks) (λ can. grind (arith, c.if-not-are_there.ensures, c.if-not-connect.ensures, c.if-not-are_apart.ensures))
 
 pub leg-requires : goal.leg-requires
-leg-requires c = record { sound = c.requires.sound; there = there_tells (house c.args.m.now).legs c.args.seats.class c.args.legs.now (sym c.if-not-are_there.ensures) 0 c.requires.asks.some }
+leg-requires c = record { there = there_tells (house c.args.m.now).legs c.args.seats.class c.args.legs.now (sym c.if-not-are_there.ensures) 0 c.requires.asks.some }
 
 pub returns-then-leg-clock-clause-meant : goal.returns-then-leg-clock-clause-meant
 unfolding turned_by place
@@ -43,7 +43,7 @@ returns-then-leg-clock-clause-meant c =
     refuses _ _ _ _ _ _ c.at-then-leg-clock.ensures refl refl (books_range _ _ _ c.requires.asks) (λ can. grind (arith, nat_tests, leaves, c.clock.ensures, c.if-not-are_there.ensures, c.if-not-connect.ensures, c.if-not-are_apart.ensures))
 
 pub price-requires : goal.price-requires
-price-requires c = record { sound = c.requires.sound; few = c.requires.asks.few; there = there_tells (house c.args.m.now).legs c.args.seats.class c.args.legs.now (sym c.if-not-are_there.ensures) }
+price-requires c = record { few = c.requires.asks.few; there = there_tells (house c.args.m.now).legs c.args.seats.class c.args.legs.now (sym c.if-not-are_there.ensures) }
 
 pub returns-in_default-clause-meant : goal.returns-in_default-clause-meant
 unfolding turned_by place
@@ -60,7 +60,6 @@ returns-in_default-next_number-clause-meant c =
 
 pub push_booking-requires : goal.push_booking-requires
 push_booking-requires c = record {
-  sound = c.requires.sound;
   space = omega (arith, c.in-Some-next_number.ensures.1, c.booking_count.ensures, ap (λ (l : Limits). l.bookings) c.limits.ensures);
   fine = subst (FineBooking (length (house c.args.m.now).legs)) (sym c.new.ensures)
       (new_booking_fine (house c.args.m.now).legs c.args.seats.class c.args.seats.count c.args.legs.now (books_range _ _ _ c.requires.asks) (sym c.if-not-are_there.ensures) (sym c.if-not-are_apart.ensures));
@@ -71,7 +70,7 @@ serve_newest-requires c =
     let h = house c.args.m.now in
     let new = asked c.args.seats.class c.args.seats.count c.args.legs.now in
     let pushed : house c.push_booking.new.self ≡ plus_booking h new = c.push_booking.ensures.house ∙ ap (plus_booking h) (ap booking_means c.new.ensures ∙ booking_of_means _ _ c.args.legs.now) in
-    record { sound = c.push_booking.ensures.sound; newest = subst Newcomer (sym pushed) (newcomer h new c.requires.idle refl) }
+    record { sound = c.push_booking.new.self.sound; newest = subst Newcomer (sym pushed) (newcomer h new c.requires.idle refl) }
 
 pub returns : goal.returns
 unfolding turned_by
@@ -91,6 +90,5 @@ returns c =
           (λ can. grind (arith, nat_tests, leaves-at, c.clock.ensures, c.if-not-are_there.ensures, c.if-not-connect.ensures, c.if-not-are_apart.ensures, c.in-Some.ensures.value, c.in-Some-next_number.ensures.1, c.booking_count.ensures, ap (λ (l : Limits). l.bookings) c.limits.ensures))
           (says h seats.class seats.count is x u until served _ _ (omega (arith, c.in-Some-next_number.ensures.0, c.booking_count.ensures)) (ap (λ (v : House). (the_booking x (last v)).stands) (sym pushed) ∙ c.serve_newest.ensures.stands ∙ as_number _ _ c.from-stands.ensures))
           (leaves h seats.class seats.count is x u until served);
-      sound = c.serve_newest.ensures.sound;
       lent = lent_both c.args.m.now c.push_booking.new.self c.serve_newest.new.memory c.push_booking.ensures.lent c.serve_newest.ensures.lent;
     }

@@ -18,7 +18,6 @@ returns-in_default-clause-meant c = refuses _ _ _ _ _ _ c.at-in_default.ensures 
 pub push_fare-requires : goal.push_fare-requires
 unfolding good_fields
 push_fare-requires c = record {
-  sound = c.requires;
   space = omega (arith, c.in-Some.ensures.0, c.in-Some.ensures.1, c.fare_count.ensures, ap (λ (l : Limits). l.fares) c.limits.ensures);
   fine = fare_fine c.args.fare.now (sym c.if-not-fare_in_range.ensures);
 }

@@ -39,7 +39,6 @@ push_leg-requires c =
     let good = opens_range _ _ _ _ _ ∙ and_from _ _ (sym c.if-not-is_in_range.ensures) c.in-Some.ensures.good in
     let new = c.with.ensures ∙ ap (leg_of s.from s.to s.leaves s.arrives) (c.as_slice.ensures.value ∙ c.in-Some.ensures.is) in
     record {
-      sound = c.requires;
       space = omega (arith, c.in-Some-next_number.ensures.1, c.leg_count.ensures, ap (λ (l : Limits). l.legs) c.limits.ensures);
       fine = subst FineLeg (sym new) (new_leg_fine s.from s.to s.leaves s.arrives _ good);
     }

@@ -21,11 +21,11 @@ abbrev none : Bor (List ℕ)
 none = record { ref_ptr = (0, 0); now = [] }
 
 pub answer_row-requires : goal.answer_row-requires
-answer_row-requires g c = record { sound = c.loop-row.invariant.sound; idle = idle _ c.loop-row.m c.loop-row.invariant.reached }
+answer_row-requires g c = record { idle = idle _ c.loop-row.m c.loop-row.invariant.reached }
 
 pub loop-row-init : goal.loop-row-init
 unfolding ran
-loop-row-init g c = record { ran = refl; reached = c.requires.reached; sound = c.requires.sound; lent = lent_none c.args.m.now }
+loop-row-init g c = record { ran = refl; reached = c.requires.reached; lent = lent_none c.args.m.now }
 
 pub loop-row-preserved : goal.loop-row-preserved
 loop-row-preserved g c =
@@ -37,7 +37,7 @@ loop-row-preserved g c =
     let l : stage_at can c.loop-row.m ≡ stage_at can c.args.m.now = ap (limits_mean can) i.lent.limits in
     let step = ap₂ (λ (v : meaning.Limits) (h : House). after v h x) l i.ran in
     let more = rows_more (stage_at can c.args.m.now) (house c.args.m.now) xs c.loop-row.row-index x (omega (arith, length-map c.args.rows.now row_call)) (sym (get_or-map row_call c.args.rows.now c.loop-row.row-index none x c.loop-row-test.true)) in
-    record { ran = d.leaves ∙ step ∙ sym more; reached = d.reached i.reached; sound = d.sound; lent = lent_both c.args.m.now c.loop-row.m c.answer_row.new.m i.lent d.lent }
+    record { ran = d.leaves ∙ step ∙ sym more; reached = d.reached i.reached; lent = lent_both c.args.m.now c.loop-row.m c.answer_row.new.m i.lent d.lent }
 
 pub returns : goal.returns
 returns g c =
@@ -47,6 +47,5 @@ returns g c =
     record {
       ran = i.ran ∙ ap (ran (stage_at can c.args.m.now) (house c.args.m.now)) (take_all c.loop-row.row-index xs (omega (arith, length-map c.args.rows.now row_call)));
       promised = promised (stage_at can c.loop-row.m) (house c.loop-row.m) i.reached;
-      sound = i.sound;
       lent = i.lent;
     }

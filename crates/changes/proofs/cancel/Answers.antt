@@ -25,6 +25,5 @@ returns c =
     record {
       meant = cancelled c.args.m.now.limits (house c.args.m.now) c.args.booking (omega (arith, c.booking_count.ensures)) _ (house c.set_stand.new.self) (house c.serve_now.new.m)
           (omega (arith, c.if-booking-ge-GONE.false)) c.from.ensures c.set_stand.ensures.house c.serve_now.ensures.house;
-      sound = c.serve_now.ensures.sound;
       lent = lent_both c.args.m.now c.set_stand.new.self c.serve_now.new.m c.set_stand.ensures.lent c.serve_now.ensures.lent;
     }

@@ -31,6 +31,5 @@ returns c =
     record {
       meant = limited c.args.m.now.limits h c.args.leg (numbers_in c.args.part.now) c.in-Some.ensures.good _ (house c.set_limits.new.self) (house c.serve_now.new.m) (omega (arith, c.leg_count.ensures)) (omega (arith, n, c.leg.ensures.classes))
           c.from.ensures (c.set_limits.ensures.house ∙ ap (set_limits h c.args.leg) (c.as_slice.ensures.value ∙ is)) c.serve_now.ensures.house;
-      sound = c.serve_now.ensures.sound;
       lent = lent_both c.args.m.now c.set_limits.new.self c.serve_now.new.m c.set_limits.ensures.lent c.serve_now.ensures.lent;
     }

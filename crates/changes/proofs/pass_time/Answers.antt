@@ -25,6 +25,5 @@ returns c =
     record {
       meant = gone_by m.limits (house m) c.args.count (sym c.if-not-ticks_in_range.ensures) _ (c.clock.result + c.args.count) (house a) (house b) (house x) (omega (arith, c.if-tick-ge-END.false)) (omega (arith, c.clock.ensures))
           c.from.ensures c.set_clock.ensures.house c.run_out.ensures.house c.serve_now.ensures.house;
-      sound = c.serve_now.ensures.sound;
       lent = lent_both m a x c.set_clock.ensures.lent (lent_both a b x c.run_out.ensures.lent c.serve_now.ensures.lent);
     }

@@ -26,7 +26,6 @@ price-requires c =
     let e : n ≡ c.booking-b.result.count = omega arith in
     let l : length (take n c.booking-b.result.legs) ≡ n = length-take-le n c.booking-b.result.legs (omega (arith, c.booking-b.ensures.fine.few, c.booking-b.ensures.whole)) in
     record {
-      sound = c.requires;
       few = omega (arith, c.booking-b.ensures.fine.few);
       there = λ x h. let q : x < n = omega arith in omega (arith, get_or-take n c.booking-b.result.legs x 0 q, c.booking-b.ensures.fine.there x (omega arith));
     }
@@ -42,6 +41,5 @@ returns c =
     record {
       meant = paid c.args.m.now.limits h c.args.booking (omega (arith, c.booking_count.ensures)) _ (house c.settle.new.self) (omega (arith, c.if-b-ne-HELD.false))
           ((λ d. seats d * seat d) ∙ ap (λ (b : Booking). b.seats * (cost h.fares h.legs b.class b.legs - 1)) means) c.settle.ensures.house;
-      sound = c.settle.ensures.sound;
       lent = c.settle.ensures.lent;
     }

@@ -6,17 +6,15 @@ use Rattle.changes.proofs.Timed.{Passed, passing_begins, passing_length, passing
 use Rattle.changes.proofs.run_out.Goals as goal
 
 pub loop-k-init : goal.loop-k-init
-loop-k-init c = passing_begins c.args.m.now c.args.tick c.requires
+loop-k-init c = passing_begins c.args.m.now c.args.tick
 
 pub is_over-requires : goal.is_over-requires
 is_over-requires c = record {
-  sound = c.loop-k.invariant.sound;
   there = omega (arith, passing_length c.args.m.now c.loop-k.m c.args.tick c.loop-k.k c.loop-k.invariant, c.booking_count-k-end.ensures);
 }
 
 pub set_stand-requires : goal.set_stand-requires
 set_stand-requires c = record {
-  sound = c.loop-k.invariant.sound;
   there = omega (arith, passing_length c.args.m.now c.loop-k.m c.args.tick c.loop-k.k c.loop-k.invariant, c.booking_count-k-end.ensures);
   stands = omega arith;
 }
@@ -30,13 +28,12 @@ loop-k-preserved c =
     let next : k < length (house m).bookings = omega (arith, c.booking_count-k-end.ensures) in
     elim c.if-is_over.branch [
       | goal.then-is_over w ↦ subst (λ (p : Memory). Passed m p t (k + 1)) (sym w.m-is)
-          (passing_gone m n t k c.loop-k.invariant next w.set_stand.new.self w.if-is_over.ensures w.set_stand.ensures.house w.set_stand.ensures.sound w.set_stand.ensures.lent)
+          (passing_gone m n t k c.loop-k.invariant next w.set_stand.new.self w.if-is_over.ensures w.set_stand.ensures.house w.set_stand.ensures.lent)
       | goal.else-is_over w ↦ subst (λ (p : Memory). Passed m p t (k + 1)) (sym w.m-is) (passing_stays m n t k c.loop-k.invariant next w.if-is_over.ensures)
     ]
 
 pub returns : goal.returns
 returns c = record {
   house = passing_ends c.args.m.now c.loop-k.m c.args.tick c.loop-k.k c.loop-k.invariant (omega (arith, c.booking_count-k-end.ensures));
-  sound = c.loop-k.invariant.sound;
   lent = c.loop-k.invariant.lent;
 }

@@ -18,7 +18,6 @@ all-requires-clause-callable c = record {
       let long = two.long in
       let first = two.first in
       let next = two.next in
-      let sound = c.requires.sound in
       rw kept (search rules);
 }
 

@@ -19,7 +19,7 @@ open-m-requires g c =
 
 pub run-requires : goal.run-requires
 run-requires g c = record {
-  sound = c.open-m.ensures.sound;
+  sound = c.open-m.result.sound;
   fresh = c.open-m.ensures.house whole ∙ ap (λ (l : Limits). new_house (limits_mean whole l)) (sym c.open-m.ensures.limits);
   size = subst (λ (l : Limits). room_for (chip_limits l) ≤ g.D.Device.blocks c.args.device.now) (sym (c.open-m.ensures.limits ∙ c.limits_of-limits.ensures)) c.requires.size;
 }

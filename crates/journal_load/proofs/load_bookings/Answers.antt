@@ -30,7 +30,7 @@ loop-k-init c = (none_came booking_sort c.args.page.now (house c.args.m.now), c.
 pub loop-k-preserved : goal.loop-k-preserved
 loop-k-preserved c = (
   more_came booking_sort c.args.page.now (house c.args.m.now) (house c.loop-k.m) (house c.push_booking.new.self) (booking_means c.in-Some.booking) c.loop-k.k c.loop-k.invariant.0 c.push_booking.ensures.house c.in-Some.ensures.0,
-  c.push_booking.ensures.sound,
+  c.push_booking.new.self.sound,
   lent_both c.args.m.now c.loop-k.m c.push_booking.new.self c.loop-k.invariant.2 c.push_booking.ensures.lent,
 )
 
@@ -49,7 +49,6 @@ returns-in_default c = record {
 
 pub push_booking-requires : goal.push_booking-requires
 push_booking-requires c = record {
-  sound = c.loop-k.invariant.1;
   space = omega (arith, c.requires.space, c.loop-k-test.true, so_many_came booking_sort c.args.page.now (house c.args.m.now) (house c.loop-k.m) c.loop-k.k c.loop-k.invariant.0, ap (λ (l : Limits). l.bookings) c.loop-k.invariant.2.limits);
   fine = subst (λ (k : ℕ). memory.FineBooking k c.in-Some.booking) c.leg_count.ensures c.in-Some.ensures.1;
 }

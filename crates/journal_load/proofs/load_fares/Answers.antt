@@ -26,7 +26,7 @@ loop-k-init c = (none_came fare_sort c.args.page.now (house c.args.m.now), c.req
 pub loop-k-preserved : goal.loop-k-preserved
 loop-k-preserved c = (
   more_came fare_sort c.args.page.now (house c.args.m.now) (house c.loop-k.m) (house c.push_fare.new.self) (fare_means c.in-Some.fare) c.loop-k.k c.loop-k.invariant.0 c.push_fare.ensures.house c.in-Some.ensures.0,
-  c.push_fare.ensures.sound,
+  c.push_fare.new.self.sound,
   lent_both c.args.m.now c.loop-k.m c.push_fare.new.self c.loop-k.invariant.2 c.push_fare.ensures.lent,
 )
 
@@ -41,7 +41,6 @@ returns-in_default c = record {
 
 pub push_fare-requires : goal.push_fare-requires
 push_fare-requires c = record {
-  sound = c.loop-k.invariant.1;
   space = omega (arith, c.requires.space, c.loop-k-test.true, so_many_came fare_sort c.args.page.now (house c.args.m.now) (house c.loop-k.m) c.loop-k.k c.loop-k.invariant.0, ap (λ (l : Limits). l.fares) c.loop-k.invariant.2.limits);
   fine = c.in-Some.ensures.1;
 }

@@ -27,7 +27,7 @@ loop-k-init c = (none_came leg_sort c.args.page.now (house c.args.m.now), c.requ
 pub loop-k-preserved : goal.loop-k-preserved
 loop-k-preserved c = (
   more_came leg_sort c.args.page.now (house c.args.m.now) (house c.loop-k.m) (house c.push_leg.new.self) (leg_means c.in-Some.leg) c.loop-k.k c.loop-k.invariant.0 c.push_leg.ensures.house c.in-Some.ensures.0,
-  c.push_leg.ensures.sound,
+  c.push_leg.new.self.sound,
   lent_both c.args.m.now c.loop-k.m c.push_leg.new.self c.loop-k.invariant.2 c.push_leg.ensures.lent,
 )
 
@@ -44,7 +44,6 @@ returns-in_default c = record {
 
 pub push_leg-requires : goal.push_leg-requires
 push_leg-requires c = record {
-  sound = c.loop-k.invariant.1;
   space = omega (arith, c.requires.space, c.loop-k-test.true, so_many_came leg_sort c.args.page.now (house c.args.m.now) (house c.loop-k.m) c.loop-k.k c.loop-k.invariant.0, ap (λ (l : Limits). l.legs) c.loop-k.invariant.2.limits);
   fine = c.in-Some.ensures.1;
 }

@@ -12,6 +12,6 @@ returns-else-pages_of-gt0 c =
     let k = none_kept m n c.args.second c.args.commit c.requires.new c.set_clock.ensures.house (omega arith) in
     record {
       at = past_at m n c.limits.result c.replay_on.result c.args.second c.args.commit 0 _ c.limits.ensures c.set_clock.ensures.lent r.reading r.ranges r.past k.0 k.1;
-      sound = c.set_clock.ensures.sound;
+      sound = c.set_clock.new.self.sound;
       lent = c.set_clock.ensures.lent;
     }

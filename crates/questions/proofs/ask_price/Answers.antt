@@ -20,7 +20,7 @@ pub price_on-requires : goal.price_on-requires
 price_on-requires c =
     let j = c.in-Some.ensures in
     let e = c.as_slice.ensures.value ∙ j.is in
-    record { sound = c.requires; class = omega (arith, c.if-class-ge-CLASSES.false); some = subst (λ v. 1 ≤ length v) (sym e) j.some; few = subst (λ v. length v ≤ 8) (sym e) j.few }
+    record { class = omega (arith, c.if-class-ge-CLASSES.false); some = subst (λ v. 1 ≤ length v) (sym e) j.some; few = subst (λ v. length v ≤ 8) (sym e) j.few }
 
 pub returns : goal.returns
 returns c = subst (λ is. Meant c.args.m.now.limits (house c.args.m.now) (price_of c.args.class is) (answer_of c.price_on.result []) (house c.args.m.now)) (c.as_slice.ensures.value ∙ c.in-Some.ensures.is) c.price_on.ensures

@@ -13,7 +13,6 @@ returns-then-not-are_there c = refuses _ _ _ _ _ _ c.at.ensures refl refl (grind
 
 pub connect-requires : goal.connect-requires
 connect-requires c = record {
-  sound = c.requires.sound;
   there = there_tells (house c.args.m.now).legs c.args.class c.args.legs.now (sym c.if-not-are_there.ensures);
 }
 
@@ -27,7 +26,6 @@ returns-then-not-are_apart c = refuses _ _ _ _ _ _ c.at-then-not-are_apart.ensur
 
 pub price-requires : goal.price-requires
 price-requires c = record {
-  sound = c.requires.sound;
   few = c.requires.few;
   there = there_tells (house c.args.m.now).legs c.args.class c.args.legs.now (sym c.if-not-are_there.ensures);
 }

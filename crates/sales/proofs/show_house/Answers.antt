@@ -19,7 +19,7 @@ open-m-requires c =
 
 pub take_up-requires : goal.take_up-requires
 take_up-requires c = record {
-  sound = c.open-m.ensures.sound;
+  sound = c.open-m.result.sound;
   fresh = c.open-m.ensures.house whole ∙ ap (λ (l : Limits). new_house (limits_mean whole l)) (sym c.open-m.ensures.limits);
   size = subst (λ (l : Limits). room_for (chip_limits l) ≤ blocks_in c.args.chip.now) (sym c.open-m.ensures.limits) c.requires.size;
 }

@@ -14,7 +14,7 @@ loop-k-smaller c =
 pub loop-k-preserved : goal.loop-k-preserved
 loop-k-preserved c =
     way_on c.args.memory.now c.loop-k.memory c.set_stand.new.self c.args.until c.in-Some.k c.loop-k.invariant c.in-Some.ensures.first
-    c.set_stand.ensures.house c.set_stand.ensures.sound c.set_stand.ensures.lent
+    c.set_stand.ensures.house c.set_stand.new.self.sound c.set_stand.ensures.lent
 
 pub returns : goal.returns
 returns c =

@@ -30,7 +30,7 @@ returns-then-fits c =
     let only : house c.set_stand.new.self ≡ newest_held h c.args.until c.has_room-fits.result =
     then ∙ ap (λ (t : Bool). newest_held h c.args.until t) (sym c.if-fits.true) in
     let all = newest_alone h c.requires.newest c.args.until (house c.set_stand.new.self) c.has_room-fits.result (sym fits) only in
-    record { house = all.0; idle = served_idle h (house c.set_stand.new.self) c.args.until all.0; room = fits; stands = all.1; only = only; sound = c.set_stand.ensures.sound; lent = c.set_stand.ensures.lent }
+    record { house = all.0; idle = served_idle h (house c.set_stand.new.self) c.args.until all.0; room = fits; stands = all.1; only = only; sound = c.set_stand.new.self.sound; lent = c.set_stand.ensures.lent }
 
 pub returns-else-fits : goal.returns-else-fits
 returns-else-fits c =

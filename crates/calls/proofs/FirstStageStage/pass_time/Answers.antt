@@ -5,4 +5,4 @@ use Rattle.calls.proofs.FirstStageStage.pass_time.Goals as goal
 
 pub returns : goal.returns
 unfolding call_number place
-returns c = later _ _ _ c.at.ensures refl refl c.requires
+returns c = later _ _ _ c.at.ensures refl refl

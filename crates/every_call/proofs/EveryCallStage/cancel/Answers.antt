@@ -3,4 +3,4 @@ use Rattle.calls.proofs.Performed.{meant}
 use Rattle.every_call.proofs.EveryCallStage.cancel.Goals as goal
 
 pub returns : goal.returns
-returns c = let e = c.cancel.ensures in meant _ _ _ _ _ _ refl e.meant e.sound e.lent
+returns c = let e = c.cancel.ensures in meant _ _ _ _ _ _ refl e.meant e.lent

@@ -3,4 +3,4 @@ use Rattle.calls.proofs.Performed.{meant}
 use Rattle.every_call.proofs.EveryCallStage.pass_time.Goals as goal
 
 pub returns : goal.returns
-returns c = let e = c.pass_time.ensures in meant _ _ _ _ _ _ refl e.meant e.sound e.lent
+returns c = let e = c.pass_time.ensures in meant _ _ _ _ _ _ refl e.meant e.lent

@@ -28,7 +28,7 @@ run-ending-requires c =
     ap (λ (l : Limits). room_for (chip_limits l)) c.open-m.ensures.limits ∙ sym c.block_count.ensures.count in
     let enough = c.if-pages-block_count.false in
     record {
-      sound = c.open-m.ensures.sound;
+      sound = c.open-m.result.sound;
       fresh = c.open-m.ensures.house thin ∙ ap (λ (l : Limits). new_house (limits_mean thin l)) (sym c.open-m.ensures.limits);
       size = subst (λ (bs : List ℕ). room_for (chip_limits c.open-m.result.limits) ≤ length bs / 8208) (sym c.new-device.ensures.bytes) (subst (λ (n : ℕ). n ≤ length c.as_mut_slice-pages.result.now / 8208) (sym asked) enough);
     }

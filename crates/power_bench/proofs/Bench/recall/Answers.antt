@@ -8,6 +8,6 @@ use Rattle.power_bench.proofs.Bench.recall.Goals as goal
 pub play-requires : goal.play-requires
 unfolding some_could
 play-requires c = record {
-  sound = c.open-m.ensures.sound;
+  sound = c.open-m.result.sound;
   idle = ap (λ (h : House). some_could h h.bookings) (c.open-m.ensures.house thin);
 }

@@ -20,7 +20,7 @@ push_booking-requires g c = record {
 
 pub serve_newest-requires : goal.serve_newest-requires
 serve_newest-requires g c = record {
-  sound = c.push_booking.ensures.sound;
+  sound = c.push_booking.new.self.sound;
   newest =
       subst Newcomer (sym c.push_booking.ensures.house)
       (newcomer (house c.args.m.now) (booking_means c.new.result) c.requires.idle (ap (λ (b : Booking). b.stands) c.new.ensures));

@@ -1,41 +1,24 @@
 -- the booking is at the end, and counted as it stands
-use Rattle.std.proofs.Common.{◌≡◌, ℕ, ◌<◌, List, length, set, refl, subst, arith, rules}
-use Rattle.std.proofs.lemmas.List.{length-set}
-use Rattle.store.specs.Range.{FineBooking}
+use Rattle.std.proofs.Common.{refl, rules}
+use Rattle.counts.specs.Counts.{counted}
 use Rattle.store.specs.Whole.{Words, words}
 use Rattle.store.proofs.Kept as kept
-use Rattle.store.proofs.Lists.{length_legs, length_bookings, summed, unsummed}
 use Rattle.store.proofs.Memory.push_booking.Goals as goal
 
-pub recount-requires : goal.recount-requires
-recount-requires c =
+pub add_booking-requires : goal.add_booking-requires
+add_booking-requires c =
     let w : Words = words c.args.self.now in
-    let f : FineBooking w.opened c.args.b.now = subst (λ (n : ℕ). FineBooking n c.args.b.now) (length_legs w.legs w.opened) c.requires.fine in
-    record { ready = kept.ready w c.requires.sound c.args.b.now f; few = λ q. kept.can_take w c.requires.sound c.args.b.now f; taken = λ q. let z : ◌≡◌ {A = ℕ} 0 1 = cc in absurd (omega arith) }
+    let s = c.args.self.now.sound in
+    record { words = kept.booking_space w s c.requires.space; sum = kept.sum_space w s c.requires.space; ready = kept.ready w s c.args.b.now c.requires.fine; few = kept.can_take w s c.args.b.now c.requires.fine }
 
-pub store_booking-requires : goal.store_booking-requires
-store_booking-requires c = let w : Words = words c.args.self.now in omega (arith, c.requires.space, length_bookings w.bookings w.sums w.booked, c.requires.sound.bookings_fit)
+pub invariant_of-self : goal.invariant_of-self
+invariant_of-self c =
+    let n = c.add_booking.new in
+    let e = c.add_booking.ensures in
+    record { sound = kept.more_sound (words c.args.self.now) c.args.self.now.sound c.args.b.now n.legs n.bookings n.sums c.requires.fine (counted c.args.b.now.stands) refl e.counts e.this e.others (search rules) (search rules) (search rules) c.requires.space n.booked e.one }
 
-pub bounds-self-k : goal.bounds-self-k
-bounds-self-k c = let w : Words = words c.args.self.now in omega (arith, c.requires.space, length_bookings w.bookings w.sums w.booked, c.requires.sound.sums_fit)
-
-pub returns : goal.returns
-returns c =
-    let w : Words = words c.args.self.now in
-    let f : FineBooking w.opened c.args.b.now = subst (λ (n : ℕ). FineBooking n c.args.b.now) (length_legs w.legs w.opened) c.requires.fine in
-    let m : w.booked < w.limits.bookings = omega (arith, c.requires.space, length_bookings w.bookings w.sums w.booked) in
-    let n : w.booked < length w.sums = omega (arith, c.requires.sound.sums_fit) in
-    let paid : ℕ = c.args.b.now.paid in
-    let sums : List ℕ = set w.sums w.booked paid in
-    let ll : length c.recount.new.legs ≡ length w.legs = search rules in
-    let lb : length c.store_booking.new.bookings ≡ length w.bookings = search rules in
-    let ls : length sums ≡ length w.sums = length-set w.sums w.booked paid in
-    let e = c.store_booking.ensures in
-    let this = summed w.bookings c.store_booking.new.bookings w.sums w.booked paid c.args.b.now n e.this in
-    let rest = unsummed w.bookings c.store_booking.new.bookings w.sums w.booked paid e.others in
-    let kept-both = kept.more_kept w c.requires.sound c.args.b.now c.recount.new.legs c.store_booking.new.bookings sums f c.is_counted-is.result c.is_counted-is.ensures c.recount.ensures this rest ll lb ls m in
-    record {
-      house = kept-both.0;
-      sound = kept-both.1;
-      lent = record { legs = refl; fares = refl; bookings = refl; sums = refl; sizes = λ d. record { legs = ll d; fares = length w.fares; bookings = lb d; sums = ls d }; limits = refl };
-    }
+pub returns-clause-house : goal.returns-clause-house
+returns-clause-house c =
+    let n = c.add_booking.new in
+    let e = c.add_booking.ensures in
+    kept.more_house (words c.args.self.now) c.args.self.now.sound c.args.b.now n.legs n.bookings n.sums c.requires.fine (counted c.args.b.now.stands) refl e.counts e.this e.others (search rules) (search rules) (search rules) c.requires.space n.booked e.one

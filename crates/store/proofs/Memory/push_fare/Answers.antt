@@ -1,22 +1,18 @@
 -- the fare is at the end
-use Rattle.std.proofs.Common.{◌≡◌, ◌<◌, length, refl, arith, rules}
-use Rattle.store.specs.Whole.{Words, words}
+use Rattle.std.proofs.Common.{rules}
+use Rattle.store.specs.Whole.{words}
 use Rattle.store.proofs.Kept as kept
-use Rattle.store.proofs.Lists.{length_fares}
 use Rattle.store.proofs.Memory.push_fare.Goals as goal
 
 pub store_fare-requires : goal.store_fare-requires
-store_fare-requires c = let w : Words = words c.args.self.now in omega (arith, c.requires.space, length_fares w.fares w.filed, c.requires.sound.fares_fit)
+store_fare-requires c = kept.fare_space (words c.args.self.now) c.args.self.now.sound c.requires.space
 
-pub returns : goal.returns
-returns c =
-    let w : Words = words c.args.self.now in
-    let m : w.filed < w.limits.fares = omega (arith, c.requires.space, length_fares w.fares w.filed) in
-    let l : length c.store_fare.new.fares ≡ length w.fares = search rules in
+pub invariant_of-self : goal.invariant_of-self
+invariant_of-self c =
     let e = c.store_fare.ensures in
-    let kept-both = kept.filed_more_kept w c.requires.sound c.args.f.now c.store_fare.new.fares c.requires.fine e.this e.others l m in
-    record {
-      house = kept-both.0;
-      sound = kept-both.1;
-      lent = record { legs = refl; fares = refl; bookings = refl; sums = refl; sizes = λ d. record { legs = length w.legs; fares = l d; bookings = length w.bookings; sums = length w.sums }; limits = refl };
-    }
+    record { sound = kept.filed_more_sound (words c.args.self.now) c.args.self.now.sound c.args.f.now c.store_fare.new.fares c.requires.fine e.this e.others (search rules) c.requires.space }
+
+pub returns-clause-house : goal.returns-clause-house
+returns-clause-house c =
+    let e = c.store_fare.ensures in
+    kept.filed_more_house (words c.args.self.now) c.args.self.now.sound c.args.f.now c.store_fare.new.fares c.requires.fine e.this e.others (search rules) c.requires.space

@@ -1,20 +1,18 @@
 -- the leg has the other limits, and what is taken stays
-use Rattle.std.proofs.Common.{◌≡◌, ℕ, ◌-◌, ◌<◌, true, List, ◌++◌, length, take, sym, refl, ap, ◌∙◌, arith, rules}
+use Rattle.std.proofs.Common.{◌≡◌, ℕ, ◌-◌, true, List, ◌++◌, length, take, sym, refl, ap, ◌∙◌, arith, rules}
 use borrow.Rule.Slice.PartMut.{post_of}
 use Rattle.std.proofs.lemmas.List.{take_at}
 use Rattle.meaning.specs.Calls.{with_limits, falling, all_to}
 use Rattle.meaning.specs.Lines as lines
 use Rattle.records.specs.declared.Leg.{Leg}
 use Rattle.records.specs.Means.{leg_means}
-use Rattle.counts.specs.Counts.{count_in}
 use Rattle.store.specs.Range.{FineLeg}
-use Rattle.store.specs.Whole.{Words, words}
+use Rattle.store.specs.Whole.{words}
 use Rattle.store.proofs.Kept as kept
-use Rattle.store.proofs.Lists.{length_legs}
 use Rattle.store.proofs.Memory.set_limits.Goals as goal
 
 pub store_leg-requires : goal.store_leg-requires
-store_leg-requires c = let w : Words = words c.args.self.now in omega (arith, c.requires.there, length_legs w.legs w.opened, c.requires.sound.opened, c.requires.sound.legs_fit)
+store_leg-requires c = kept.leg_there (words c.args.self.now) c.args.self.now.sound c.args.i c.requires.there
 
 -- the leg that is stored: its limits are those that were given, and all else is as it was loaded
 module _ (g : Leg) (xs ys : List ℕ) (n : ℕ) (e : ys ≡ xs) (k : g.classes ≡ length xs) where
@@ -39,23 +37,28 @@ module _ (g : Leg) (xs ys : List ℕ) (n : ℕ) (e : ys ≡ xs) (k : g.classes �
   other_means : (m : lines.Leg) → leg_means g ≡ m → leg_means other ≡ with_limits m xs
   other_means m h = (λ d. record { from = g.from; to = g.to; leaves = g.leaves; arrives = g.arrives; limits = taken_limits d }) ∙ ap (λ (z : lines.Leg). with_limits z xs) h
 
-pub returns : goal.returns
-returns c =
-    let w : Words = words c.args.self.now in
+pub invariant_of-self : goal.invariant_of-self
+invariant_of-self c =
     let g : Leg = c.leg-g.result in
     let xs : List ℕ = c.args.limits.now in
     let ys : List ℕ = c.copy_from_slice.new.self in
     let n : ℕ = length xs - 0 in
     let e : ys ≡ xs = c.copy_from_slice.ensures.after in
     let k : g.classes ≡ length xs = c.leg-g.ensures.classes ∙ sym c.requires.classes in
-    let h : c.args.i < w.opened = omega (arith, c.requires.there, length_legs w.legs w.opened) in
-    let l : length c.store_leg.new.legs ≡ length w.legs = search rules in
     let a = c.store_leg.ensures in
-    let f = other_fine g xs ys n e k c.leg-g.ensures.fine c.requires.falling c.requires.small in
-    let co : (j x : ℕ) → x < 26 → count_in c.store_leg.new.legs j x ≡ count_in w.legs j x = λ j x m. a.beside j x (omega arith) in
-    let kept-both = kept.limited_kept w c.requires.sound c.args.i h (other g xs ys n e k) c.store_leg.new.legs f a.this a.others co l xs (other_means g xs ys n e k _ c.leg-g.ensures.means) in
     record {
-      house = kept-both.0;
-      sound = kept-both.1;
-      lent = record { legs = refl; fares = refl; bookings = refl; sums = refl; sizes = λ d. record { legs = l d; fares = length w.fares; bookings = length w.bookings; sums = length w.sums }; limits = refl };
+      sound = kept.limited_sound (words c.args.self.now) c.args.self.now.sound c.args.i c.requires.there (other g xs ys n e k) c.store_leg.new.legs
+          (other_fine g xs ys n e k c.leg-g.ensures.fine c.requires.falling c.requires.small) a.this a.others (λ j x m. a.beside j x (omega arith)) (search rules);
     }
+
+pub returns-clause-house : goal.returns-clause-house
+returns-clause-house c =
+    let g : Leg = c.leg-g.result in
+    let xs : List ℕ = c.args.limits.now in
+    let ys : List ℕ = c.copy_from_slice.new.self in
+    let n : ℕ = length xs - 0 in
+    let e : ys ≡ xs = c.copy_from_slice.ensures.after in
+    let k : g.classes ≡ length xs = c.leg-g.ensures.classes ∙ sym c.requires.classes in
+    let a = c.store_leg.ensures in
+    kept.limited_house (words c.args.self.now) c.args.self.now.sound c.args.i c.requires.there (other g xs ys n e k) c.store_leg.new.legs
+    (other_fine g xs ys n e k c.leg-g.ensures.fine c.requires.falling c.requires.small) a.this a.others (λ j x m. a.beside j x (omega arith)) (search rules) xs (other_means g xs ys n e k _ c.leg-g.ensures.means)
