@@ -1,14 +1,14 @@
--- Fares gone through one by one, and first pieces one leg longer each time, come to the cheapest.
-use Rattle.std.proofs.Common.{◌≡◌, ℕ, zero, suc, ◌+◌, ◌-◌, ◌<◌, ◌≤◌, Bool, true, false, ltb, List, [], ◌∷◌, length, get_or, take, drop, Some, None, Option, sym, refl, ap, ◌∙◌, add-one, arith}
+-- The least price of all fares is that of one piece, and first pieces one leg longer each time come to the cheapest.
+use Rattle.std.proofs.Common.{◌≡◌, ℕ, zero, suc, ◌+◌, ◌-◌, ◌<◌, ◌≤◌, min, Bool, true, false, ◌&&◌, cond, eqb, ltb, leb, List, [], ◌∷◌, map, length, get_or, take, drop, Some, None, Option, sym, refl, ap, ◌∙◌, add-one, arith}
+use Rattle.std.specs.List.{filter, fold, reduce}
+use Rattle.std.specs.Option.{option_map}
 use Rattle.std.proofs.lemmas.List.{drop_more, drop-take, drop-drop, get_or-take, at_drop_more, at_drop_all, length-drop}
 use Rattle.std.proofs.lemmas.Bool.Decides.{nat_tests}
 use Rattle.meaning.specs.Lines.{pick, Leg, Fare, last_of, fits_fare, cheaper, piece, plus, by_first, by_any, cost_in, cost}
 use Rattle.meaning.specs.Statements.{Cheapest}
 use Rattle.meaning.proofs.Cheap.{cheapest}
-use Rattle.records.specs.Means.{fare_means}
-use Rattle.records.specs.declared.Fare as code
 use Rattle.pricing.specs.declared.Stretch.{Stretch}
-use Rattle.pricing.specs.Prices.{BestWay, coded, fits, stretch}
+use Rattle.pricing.specs.Prices.{BestWay, coded, stretch}
 
 -- no price is never the cheaper one
 pub cheaper_none : (x : ℕ) → cheaper x 0 ≡ x
@@ -28,6 +28,10 @@ cheaper_three (suc a) zero c = refl
 cheaper_three (suc a) (suc b) zero = cheaper_none (cheaper (suc a) (suc b))
 cheaper_three (suc a) (suc b) (suc c) = grind (arith, nat_tests)
 
+-- the smaller of two prices is the cheaper
+sooner : (a b : ℕ) → suc (min a b) ≡ cheaper (suc a) (suc b)
+sooner a b = grind (arith, nat_tests)
+
 -- the cheaper of two is no more than both may be
 pub cheaper_le : (a b r n : ℕ) → r ≡ cheaper a b → a ≤ n → b ≤ n → r ≤ n
 cheaper_le zero b r n e p q = omega arith
@@ -37,11 +41,6 @@ cheaper_le (suc a) (suc b) r n e p q = go (ltb b a) e
     go : (t : Bool) → r ≡ pick t (suc b) (suc a) → r ≤ n
     go true f = omega arith
     go false f = omega arith
-
--- a price that a test lets stand, as the meaning counts it
-pub pick_le : (t : Bool) (o p n : ℕ) → o ≡ pick t (suc p) 0 → p ≤ n → o ≤ n + 1
-pick_le true o p n e h = omega arith
-pick_le false o p n e h = omega arith
 
 -- the last of some legs, by its place behind the first
 last_at : (a : ℕ) (p : List ℕ) (n : ℕ) → n ≡ length p → last_of a p ≡ get_or (a ∷ p) n 0
@@ -55,24 +54,41 @@ last_at a (b ∷ p) (suc n) e = last_at b p n (omega arith)
 pub last_is : (p : List ℕ) → 0 < length p → last_of (get_or p 0 0) (drop 1 p) ≡ get_or p (length p - 1) 0
 last_is p h = last_at (get_or p 0 0) (drop 1 p) (length p - 1) (omega (arith, length-drop 1 p)) ∙ ap (λ (v : List ℕ). get_or v (length p - 1) 0) (sym (drop_more p 0 0 h))
 
--- one fare more
-pub piece_more : (fs : List Fare) (ls : List Leg) (c i : ℕ) (is : List ℕ) (k : ℕ) (f : Fare) (b o r p : ℕ) → k < length fs → ((d : Fare) → f ≡ get_or fs k d) →
-    o ≡ pick (fits_fare ls c i is f) (suc f.price) 0 → r ≡ cheaper b o → cheaper b (piece (drop k fs) ls c i is) ≡ p → cheaper r (piece (drop (k + 1) fs) ls c i is) ≡ p
-unfolding piece
-piece_more fs ls c i is k f b o r p h g e t s =
-    let q : piece (drop k fs) ls c i is ≡ cheaper o (piece (drop (k + 1) fs) ls c i is) =
-    at_drop_more (λ v. piece v ls c i is) fs k f h ∙ ap (λ (y : Fare). cheaper (pick (fits_fare ls c i is y) (suc y.price) 0) (piece (drop (k + 1) fs) ls c i is)) (sym (g f))
-    ∙ ap (λ (x : ℕ). cheaper x (piece (drop (k + 1) fs) ls c i is)) (sym e) in
-    ap (λ (x : ℕ). cheaper x (piece (drop (k + 1) fs) ls c i is)) t ∙ cheaper_three b o (piece (drop (k + 1) fs) ls c i is) ∙ ap (λ (x : ℕ). cheaper b x) (sym q) ∙ s
+-- is a fare of the meaning for a stretch
+abbrev pub asked_for : Fare → Stretch → Bool
+asked_for f s = (eqb f.origin s.from && eqb f.goal s.to) && (eqb f.class s.class && leb s.legs f.most_legs)
 
--- what a fare asks for the stretch that some legs are, it asks for them as one piece
-pub asked_piece : (ls : List Leg) (c i : ℕ) (is : List ℕ) (f : code.Fare) (s : Stretch) (o : ℕ) → s ≡ stretch ls c i is → o ≡ pick (fits f s) (suc f.price) 0 → o ≡ pick (fits_fare ls c i is (fare_means f)) (suc f.price) 0
-asked_piece ls c i is f s o e g = g ∙ ap (λ (t : Stretch). pick (fits f t) (suc f.price) 0) e
+-- what the fares for a stretch cost
+abbrev pub prices : Stretch → List Fare → List ℕ
+prices s fs = map (λ (f : Fare). f.price) (filter (λ f. asked_for f s) fs)
 
--- all fares
-pub piece_all : (fs : List Fare) (ls : List Leg) (c i : ℕ) (is : List ℕ) (k b p : ℕ) → length fs ≤ k → cheaper b (piece (drop k fs) ls c i is) ≡ p → b ≡ p
+-- the least of those that are gone through yet and of the others is the cheapest
+least : (ls : List Leg) (c i : ℕ) (is : List ℕ) (fs : List Fare) (x : ℕ) → suc (fold min x (prices (stretch ls c i is) fs)) ≡ cheaper (suc x) (piece fs ls c i is)
 unfolding piece
-piece_all fs ls c i is k b p h s = sym (cheaper_none b) ∙ ap (λ (x : ℕ). cheaper b x) (sym (at_drop_all (λ v. piece v ls c i is) fs k h)) ∙ s
+least ls c i is [] x = refl
+least ls c i is (f ∷ fs) x = go (fits_fare ls c i is f) (λ y. least ls c i is fs y)
+  where
+    go : (t : Bool) → ((y : ℕ) → suc (fold min y (prices (stretch ls c i is) fs)) ≡ cheaper (suc y) (piece fs ls c i is)) → suc (fold min x (map (λ (g : Fare). g.price) (cond t (f ∷ filter (λ g. fits_fare ls c i is g) fs) (filter (λ g. fits_fare ls c i is g) fs)))) ≡ cheaper (suc x) (cheaper (pick t (suc f.price) 0) (piece fs ls c i is))
+    go true e = e (min x f.price) ∙ ap (λ (v : ℕ). cheaper v (piece fs ls c i is)) (sooner x f.price) ∙ cheaper_three (suc x) (suc f.price) (piece fs ls c i is)
+    go false e = e x
+
+all_priced : (ls : List Leg) (c i : ℕ) (is : List ℕ) (fs : List Fare) → coded (reduce min (prices (stretch ls c i is) fs)) ≡ piece fs ls c i is
+unfolding piece
+all_priced ls c i is [] = refl
+all_priced ls c i is (f ∷ fs) = go (fits_fare ls c i is f) (all_priced ls c i is fs)
+  where
+    go : (t : Bool) → coded (reduce min (prices (stretch ls c i is) fs)) ≡ piece fs ls c i is →
+        coded (reduce min (map (λ (g : Fare). g.price) (cond t (f ∷ filter (λ g. fits_fare ls c i is g) fs) (filter (λ g. fits_fare ls c i is g) fs)))) ≡ cheaper (pick t (suc f.price) 0) (piece fs ls c i is)
+    go true e = least ls c i is fs f.price
+    go false e = e
+
+as_it_is : (r : Option ℕ) → coded r ≡ coded (option_map (λ x. x) r)
+as_it_is None = refl
+as_it_is (Some x) = refl
+
+-- the least price of all fares for the stretch that some legs are is what they cost as one piece
+pub piece_is : (ls : List Leg) (c i : ℕ) (is : List ℕ) (fs : List Fare) (s : Stretch) → s ≡ stretch ls c i is → (r : Option ℕ) → option_map (λ x. x) r ≡ reduce min (prices s fs) → coded r ≡ piece fs ls c i is
+piece_is ls c i is fs s e r h = as_it_is r ∙ ap coded h ∙ ap (λ (v : Stretch). coded (reduce min (prices v fs))) e ∙ all_priced ls c i is fs
 
 -- the cheapest for a journey with a first piece of at most k legs, the rest of at most n legs cut in turn
 abbrev pub to : List Fare → List Leg → ℕ → ℕ → List ℕ → ℕ → ℕ

@@ -32,25 +32,13 @@ fn is_for(f: &Fare, s: &Stretch) -> bool
     f.origin == s.from && f.goal == s.to && f.class == s.class && s.legs <= f.most
 }
 
-// What a fare asks for this stretch, if it is for it.
-fn offer(f: &Fare, s: &Stretch) -> Option<u64>
-    ensures { coded result ≡ pick (fits f.now s.now) (suc f.now.price) 0 }
-{
-    if is_for(f, s) {
-        Some(f.price as u64)
-    } else {
-        None
-    }
-}
-
 // The cheaper of two prices.
 fn cheaper_of(a: Option<u64>, b: Option<u64>) -> Option<u64>
     ensures { coded result ≡ cheaper (coded a) (coded b) }
 {
     match (a, b) {
         (Some(x), Some(y)) => Some(x.min(y)),
-        (Some(x), None) => Some(x),
-        (None, _) => b,
+        _ => a.or(b),
     }
 }
 
@@ -78,11 +66,11 @@ fn piece_price(m: &Memory, class: u32, part: &[u32]) -> Option<u64>
     ensures bound { coded result ≤ 100000001 }
 {
     let asked = stretch_of(m, class, part);
-    let mut best = None;
-    for k in 0..m.fare_count() {
-        best = cheaper_of(best, offer(&m.fare(k), &asked));
-    }
-    best
+    (0..m.fare_count())
+        .map(|k| m.fare(k))
+        .filter(|fare| is_for(fare, &asked))
+        .map(|fare| u64::from(fare.price))
+        .min()
 }
 
 // The cheapest over all ways to cut a journey: over each first piece, of one leg and so many more,
