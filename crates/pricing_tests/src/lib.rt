@@ -4,8 +4,6 @@
 // goal, class, legs at most, price.
 #![tactic(auto)]
 
-ghost use Rattle.store.specs.Whole.{Sound};
-
 #[cfg(test)]
 mod tests {
     use limits::Limits;
@@ -16,10 +14,7 @@ mod tests {
     use store::{Memory, open};
 
     // A leg between two places. Its times and limits have no part in a price.
-    fn add_leg(rt: &impl Abort, m: &mut Memory, from: u32, to: u32) -> Result<(), Fail>
-        requires { Sound m.old }
-        ensures { Sound m.new }
-    {
+    fn add_leg(rt: &impl Abort, m: &mut Memory, from: u32, to: u32) -> Result<(), Fail> {
         assert!(rt; m.leg_count() < m.limits().legs as usize);
         assert!(rt; from < 65_536);
         assert!(rt; to < 65_536);
@@ -28,10 +23,7 @@ mod tests {
     }
 
     // The ten legs.
-    fn add_legs(rt: &impl Abort, m: &mut Memory) -> Result<(), Fail>
-        requires { Sound m.old }
-        ensures { Sound m.new }
-    {
+    fn add_legs(rt: &impl Abort, m: &mut Memory) -> Result<(), Fail> {
         for i in 0..8 {
             add_leg(rt, m, 10 + i, 11 + i)?;
         }
@@ -44,12 +36,8 @@ mod tests {
         rt: &impl Abort,
         m: &mut Memory,
         fares: &[(u32, u32, u32, u32, u32)],
-    ) -> Result<(), Fail>
-        requires { Sound m.old }
-        ensures { Sound m.new }
-    {
-        for k in 0..fares.len() {
-            let (origin, goal, class, most, price) = fares[k];
+    ) -> Result<(), Fail> {
+        for &(origin, goal, class, most, price) in fares {
             assert!(rt; m.fare_count() < m.limits().fares as usize);
             assert!(rt; origin < 65_536);
             assert!(rt; goal < 65_536);
@@ -68,13 +56,10 @@ mod tests {
     }
 
     // The price of a journey, once its legs are seen to be there.
-    fn ask(rt: &impl Abort, m: &Memory, class: u32, journey: &[u32]) -> Result<Option<u64>, Fail>
-        requires { Sound m.now }
-    {
+    fn ask(rt: &impl Abort, m: &Memory, class: u32, journey: &[u32]) -> Result<Option<u64>, Fail> {
         assert!(rt; journey.len() <= 8);
-        for x in 0..journey.len() {
-            assert!(rt; (journey[x] as usize) < m.leg_count());
-        }
+        let legs = m.leg_count();
+        assert!(rt; journey.iter().all(|i| (*i as usize) < legs));
         Ok(price(m, class, journey))
     }
 

@@ -11,4 +11,4 @@ unfolding falling all_to
 fine a b g p q e = subst (λ (l : Leg). FineLeg l) (sym e) (record { from = p; to = q; leaves = omega arith; arrives = omega arith; some = omega arith; classes = omega arith; falling = refl; small = refl })
 
 pub push_leg-requires : goal.push_leg-requires
-push_leg-requires g c = record { sound = c.requires; space = search rules; fine = fine c.args.from c.args.to c.new.result (search rules) (search rules) c.new.ensures }
+push_leg-requires g c = record { space = search rules; fine = fine c.args.from c.args.to c.new.result (search rules) (search rules) c.new.ensures }
