@@ -1,7 +1,7 @@
 -- The four bytes of number i stand at four times i.
 use Rattle.std.proofs.Common.{arith}
 use Rattle.wire.proofs.Fields.{numbers_length, numbers_at}
-use Rattle.wire.proofs.leg_at.Goals as goal
+use Rattle.wire.proofs.reading.leg_at.Goals as goal
 
 pub overflow_mul-i : goal.overflow_mul-i
 overflow_mul-i c = omega (arith, numbers_length c.args.part.now, c.leg_count.ensures)
