@@ -1,6 +1,5 @@
 -- A call with a list and one without, each too long or written.
 use Rattle.std.proofs.Common.{◌≡◌, ℕ, ◌+◌, ◌*◌, List, ◌∷◌, length, take, sym, refl, ap, ap₂, ◌∙◌, inl, inr, arith}
-use Rattle.protocol.specs.Forms.{field_count}
 use Rattle.protocol.specs.Verbs.{verb_number}
 use Rattle.wire.specs.Bytes.{row_of, over}
 use Rattle.wire.proofs.Decoding.{list_at_listed, list_at_plain}

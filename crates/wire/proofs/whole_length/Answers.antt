@@ -1,5 +1,5 @@
 -- How long a row should be, by its count if it has one.
-use Rattle.std.proofs.Common.{◌≡◌, ◌+◌, ◌*◌, ◌-◌, get_or, refl, ap, arith}
+use Rattle.std.proofs.Common.{◌≡◌, ◌+◌, ◌*◌, get_or, refl, arith}
 use Rattle.std.proofs.lemmas.Grind.{common_steps}
 use Rattle.protocol.specs.Forms.{field_count}
 use Rattle.protocol.specs.Verbs.{verb_number}

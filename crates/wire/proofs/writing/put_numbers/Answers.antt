@@ -1,5 +1,5 @@
 -- Each turn writes one number right behind the others.
-use Rattle.std.proofs.Common.{sym, ap, ◌∙◌, arith}
+use Rattle.std.proofs.Common.{sym, arith}
 use Rattle.wire.specs.Bytes.{row_of}
 use Rattle.wire.proofs.Written.{over_none, row_more}
 use Rattle.wire.proofs.writing.put_numbers.Goals as goal
