@@ -47,6 +47,7 @@ pub fn put_numbers<N: FixedWidth>(out: &mut [u8], at: usize, numbers: &[N]) -> u
     ensures end { result ≡ at + N.WIDTH * length numbers.now }
     ensures after { out.new ≡ over at (row_of N.WIDTH (map N.value numbers.now)) out.old }
 {
+    // Kept: a proof knows nothing of what a loop writes through `chunks_exact_mut`.
     let mut place = at;
     for number in numbers {
         let end = place + N::WIDTH;
