@@ -1,3 +1,4 @@
 pub mod Wholes
 pub mod Fields
 pub mod Numbers
+pub mod Apart

@@ -4,8 +4,15 @@
 // the numbers of a call come, for whoever writes them as bytes or as text.
 #![tactic(auto)]
 
-ghost use Rattle.std.specs.Prelude.{◌≡◌, ◌<◌, ◌≤◌, Some, None};
-ghost use Rattle.protocol.specs.Forms.{NothingLost, PutTogether, TakenApart, field_count, has_list};
+ghost use Rattle.std.specs.Prelude.{◌≡◌, ℕ, ◌<◌, ◌≤◌, List, Some, None};
+ghost use Rattle.protocol.specs.Forms.{NothingLost, PutTogether, TakenApart, call_of, field_count, has_list, made};
+ghost use Rattle.protocol.specs.Verbs.{verb_number, verb_of};
+
+mod refusals;
+mod verbs;
+
+pub use refusals::Refusal;
+pub use verbs::{NoVerb, Verb};
 
 // A call. Limits stand beside `Open` and `Limits`, legs beside `Book` and `Price`.
 #[derive(Clone, Copy, PartialEq)]
@@ -68,12 +75,9 @@ pub enum Answer {
 pub fn field_count(number: u8) -> Option<usize>
     ensures { elim result [ Some n ↦ (number ≤ 10) × (n ≡ field_count number) | None ↦ 10 < number ] }
 {
-    match number {
-        0 => Some(4),
-        1 => Some(5),
-        2 | 7 => Some(2),
-        3 | 4 | 5 | 6 | 8 | 9 | 10 => Some(1),
-        _ => None,
+    match Verb::try_from(number) {
+        Ok(verb) => Some(verb.field_count()),
+        Err(_) => None,
     }
 }
 
@@ -81,16 +85,36 @@ pub fn field_count(number: u8) -> Option<usize>
 pub fn takes_list(number: u8) -> bool
     ensures { result ≡ has_list number }
 {
-    match number {
-        0 | 2 | 5 | 8 => true,
-        _ => false,
+    match Verb::try_from(number) {
+        Ok(verb) => verb.takes_list(),
+        Err(_) => false,
     }
 }
 
 impl Call {
-    // The call's number, and its numbers in order; what is beyond their count is 0.
-    pub fn parts(self) -> (u8, [u32; 5])
-        ensures { TakenApart self result.0 result.1 }
+    // What the call does.
+    pub fn verb(self) -> Verb
+        ensures { result ≡ verb_of self }
+    {
+        match self {
+            Call::Open { .. } => Verb::Open,
+            Call::File { .. } => Verb::File,
+            Call::Book { .. } => Verb::Book,
+            Call::Pay { .. } => Verb::Pay,
+            Call::Cancel { .. } => Verb::Cancel,
+            Call::Limits { .. } => Verb::Limits,
+            Call::Ticks { .. } => Verb::Ticks,
+            Call::Free { .. } => Verb::Free,
+            Call::Price { .. } => Verb::Price,
+            Call::Booking { .. } => Verb::Booking,
+            Call::Leg { .. } => Verb::Leg,
+        }
+    }
+
+    // Its numbers in order; what is beyond their count is 0.
+    #[tactic(auto, using(crate::proofs::Apart::apart))]
+    pub fn fields(self) -> [u32; 5]
+        ensures { TakenApart self (verb_number (verb_of self)) result }
     {
         match self {
             Call::Open {
@@ -98,55 +122,70 @@ impl Call {
                 to,
                 leaves,
                 arrives,
-            } => (0, [from, to, leaves, arrives, 0]),
+            } => [from, to, leaves, arrives, 0],
             Call::File {
                 origin,
                 goal,
                 class,
                 most_legs,
                 price,
-            } => (1, [origin, goal, class, most_legs, price]),
-            Call::Book { class, seats } => (2, [class, seats, 0, 0, 0]),
-            Call::Pay { booking } => (3, [booking, 0, 0, 0, 0]),
-            Call::Cancel { booking } => (4, [booking, 0, 0, 0, 0]),
-            Call::Limits { leg } => (5, [leg, 0, 0, 0, 0]),
-            Call::Ticks { count } => (6, [count, 0, 0, 0, 0]),
-            Call::Free { leg, class } => (7, [leg, class, 0, 0, 0]),
-            Call::Price { class } => (8, [class, 0, 0, 0, 0]),
-            Call::Booking { booking } => (9, [booking, 0, 0, 0, 0]),
-            Call::Leg { leg } => (10, [leg, 0, 0, 0, 0]),
+            } => [origin, goal, class, most_legs, price],
+            Call::Book { class, seats } => [class, seats, 0, 0, 0],
+            Call::Free { leg, class } => [leg, class, 0, 0, 0],
+            Call::Pay { booking } | Call::Cancel { booking } | Call::Booking { booking } => {
+                [booking, 0, 0, 0, 0]
+            }
+            Call::Limits { leg } | Call::Leg { leg } => [leg, 0, 0, 0, 0],
+            Call::Ticks { count } => [count, 0, 0, 0, 0],
+            Call::Price { class } => [class, 0, 0, 0, 0],
         }
+    }
+
+    // The call of a verb, with these numbers.
+    pub fn with(verb: Verb, fields: [u32; 5]) -> Call
+        ensures { (list : List ℕ) → call_of result list ≡ made (verb_number verb) fields list }
+    {
+        let [a, b, c, d, e] = fields;
+        match verb {
+            Verb::Open => Call::Open {
+                from: a,
+                to: b,
+                leaves: c,
+                arrives: d,
+            },
+            Verb::File => Call::File {
+                origin: a,
+                goal: b,
+                class: c,
+                most_legs: d,
+                price: e,
+            },
+            Verb::Book => Call::Book { class: a, seats: b },
+            Verb::Pay => Call::Pay { booking: a },
+            Verb::Cancel => Call::Cancel { booking: a },
+            Verb::Limits => Call::Limits { leg: a },
+            Verb::Ticks => Call::Ticks { count: a },
+            Verb::Free => Call::Free { leg: a, class: b },
+            Verb::Price => Call::Price { class: a },
+            Verb::Booking => Call::Booking { booking: a },
+            Verb::Leg => Call::Leg { leg: a },
+        }
+    }
+
+    // The call's number, and its numbers in order; what is beyond their count is 0.
+    pub fn parts(self) -> (u8, [u32; 5])
+        ensures { TakenApart self result.0 result.1 }
+    {
+        (self.verb().number(), self.fields())
     }
 
     // The call of a number, with these numbers; none beyond 10.
     pub fn new(number: u8, fields: [u32; 5]) -> Option<Call>
         ensures { PutTogether number fields result }
     {
-        let [a, b, c, d, e] = fields;
-        match number {
-            0 => Some(Call::Open {
-                from: a,
-                to: b,
-                leaves: c,
-                arrives: d,
-            }),
-            1 => Some(Call::File {
-                origin: a,
-                goal: b,
-                class: c,
-                most_legs: d,
-                price: e,
-            }),
-            2 => Some(Call::Book { class: a, seats: b }),
-            3 => Some(Call::Pay { booking: a }),
-            4 => Some(Call::Cancel { booking: a }),
-            5 => Some(Call::Limits { leg: a }),
-            6 => Some(Call::Ticks { count: a }),
-            7 => Some(Call::Free { leg: a, class: b }),
-            8 => Some(Call::Price { class: a }),
-            9 => Some(Call::Booking { booking: a }),
-            10 => Some(Call::Leg { leg: a }),
-            _ => None,
+        match Verb::try_from(number) {
+            Ok(verb) => Some(Call::with(verb, fields)),
+            Err(_) => None,
         }
     }
 }

@@ -1,0 +1,16 @@
+-- The numbers of refusals, as answers have them. Definitions only.
+use Rattle.std.specs.Prelude.{ℕ}
+use Rattle.protocol.specs.declared.refusals.Refusal.{Refusal}
+use Rattle.protocol.specs.declared.refusals.Refusal.TheVariants.{NoCall, OutOfRange, CannotOpen, NoLeg, NoJourney, NoFare, NoBooking, StandsOtherwise, LimitReached}
+
+-- the number of a refusal
+abbrev pub refusal_number : Refusal → ℕ
+refusal_number NoCall = 1
+refusal_number OutOfRange = 2
+refusal_number CannotOpen = 3
+refusal_number NoLeg = 4
+refusal_number NoJourney = 5
+refusal_number NoFare = 6
+refusal_number NoBooking = 7
+refusal_number StandsOtherwise = 8
+refusal_number LimitReached = 9
