@@ -23,7 +23,6 @@ use std::process::ExitCode;
 use std::{env, fs, io};
 use store::{Memory, open};
 use text::answers::AnswerLine;
-use text::houses::HouseLine;
 
 // Prints an answer, unless it is the act in which power fails. Gives whether power held.
 fn say(rt: &HostRuntime, power: &mut Power, answer: Answer, list: &[u64]) -> io::Result<bool> {
@@ -54,10 +53,10 @@ fn play_calls(rt: &HostRuntime, m: &mut Memory, text: &[u8], power: &mut Power) 
     while !rest.is_empty() {
         let next = read_line(rest);
         rest = next.rest;
-        if is_passed_over(next.line) {
+        if is_passed_over(next.value) {
             continue;
         }
-        let reply = answer_line(rt.alloc(), m, next.line, &mut sold)?;
+        let reply = answer_line(rt.alloc(), m, next.value, &mut sold)?;
         let listed = reply.listed;
         if !say(rt, power, reply.answer, &sold[0..listed])? {
             return Ok(());
@@ -69,17 +68,10 @@ fn play_calls(rt: &HostRuntime, m: &mut Memory, text: &[u8], power: &mut Power) 
 // Plays the calls of a text on a new house, in memory that is lent for it.
 fn play_house(
     rt: &HostRuntime,
-    house: HouseLine,
+    limits: Limits,
     text: &[u8],
     power: &mut Power,
 ) -> io::Result<()> {
-    let limits = Limits {
-        gap: house.gap,
-        hold: house.hold,
-        legs: house.legs,
-        fares: house.fares,
-        bookings: house.bookings,
-    };
     let mut leg_words = vec![in rt.alloc(); 0u32; 32 * 128]?;
     let mut fare_words = vec![in rt.alloc(); 0u32; 32 * 24]?;
     let mut booking_words = vec![in rt.alloc(); 0u32; 128 * 22]?;
@@ -116,11 +108,11 @@ fn play(rt: &HostRuntime, text: &[u8], bytes: u64, power: &mut Power) -> io::Res
     while !rest.is_empty() {
         let next = read_line(rest);
         rest = next.rest;
-        if is_passed_over(next.line) {
+        if is_passed_over(next.value) {
             continue;
         }
-        match open_house(next.line, bytes) {
-            Ok(house) => return play_house(rt, house, rest, power),
+        match open_house(next.value, bytes) {
+            Ok(limits) => return play_house(rt, limits, rest, power),
             Err(refusal) => {
                 let _ = say(rt, power, refusal, &[])?;
                 return Ok(());

@@ -1,21 +1,22 @@
 // Opening a house by its first line.
 ghost use Rattle.house.specs.Opening.{Checked, FirstLine};
 
+use limits::Limits;
 use protocol::Answer;
-use text::houses::{HouseLine, read_house};
+use text::houses::read_house;
 
-// Can a house of these numbers be opened on a file of so many bytes that stands for its chip; if
+// Can a house of these limits be opened on a file of so many bytes that stands for its chip; if
 // not, the place of the refusal: 0 memory, 1 the chip, 2 the rest.
-pub fn check_opening(house: HouseLine, bytes: u64) -> Result<(), u64>
-    ensures { Checked result house bytes }
+pub fn check_opening(limits: Limits, bytes: u64) -> Result<(), u64>
+    ensures { Checked result limits bytes }
 {
-    let HouseLine {
+    let Limits {
         gap,
         hold,
         legs,
         fares,
         bookings,
-    } = house;
+    } = limits;
     if legs > 32 || fares > 32 || bookings > 128 {
         return Err(0);
     }
@@ -30,18 +31,18 @@ pub fn check_opening(house: HouseLine, bytes: u64) -> Result<(), u64>
 }
 
 // Opens the house by its line; or the refusal that is answered.
-pub fn open_house(line: &[u8], bytes: u64) -> Result<HouseLine, Answer>
+pub fn open_house(line: &[u8], bytes: u64) -> Result<Limits, Answer>
     ensures { FirstLine result line.now bytes }
 {
-    let house = match read_house(line) {
-        Ok(house) => house,
+    let limits = match read_house(line) {
+        Ok(limits) => limits,
         Err(place) => return Err(Answer::Refused {
             refusal: 1,
             place: place as u64,
         }),
     };
-    match check_opening(house, bytes) {
-        Ok(()) => Ok(house),
+    match check_opening(limits, bytes) {
+        Ok(()) => Ok(limits),
         Err(place) => Err(Answer::Refused { refusal: 3, place }),
     }
 }

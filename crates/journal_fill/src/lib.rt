@@ -17,6 +17,7 @@ use journal::Turn;
 use journal_rows::{BOOKINGS_A_PAGE, FARES_A_PAGE, LEGS_A_PAGE};
 use records::{Booking, Fare, Leg};
 use store::Memory;
+use wire::put_numbers;
 
 // What the first number of a page says.
 const COMMIT: u32 = 1;
@@ -46,9 +47,7 @@ fn put_words(part: &mut [u8], words: &[u32])
     requires { length part.old ≡ 4 * length words.now }
     ensures { part.new ≡ row_of 4 words.now }
 {
-    for (i, word) in words.iter().enumerate() {
-        part[4 * i..4 * i + 4].copy_from_slice(&word.to_le_bytes());
-    }
+    put_numbers(part, 0, words);
 }
 
 // Begins a page with its kind and one number more: a turn, or how much follows. All behind them is 0.

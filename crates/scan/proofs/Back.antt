@@ -1,7 +1,8 @@
 -- Numbers and words that are printed are read back.
-use Rattle.std.proofs.Common.{◌≡◌, ℕ, zero, suc, ◌+◌, ◌-◌, ◌^◌, ◌<◌, ◌≤◌, Bool, true, false, eqb, List, [], ◌∷◌, ◌++◌, length, take, drop, decimal, sym, refl, ap, ◌∙◌, ap₂, append_assoc, append-nil, arith, length-append}
+use Rattle.std.proofs.Common.{◌≡◌, ℕ, zero, suc, ◌+◌, ◌-◌, ◌^◌, ◌<◌, ◌≤◌, Bool, true, false, cond, eqb, List, [], ◌∷◌, ◌++◌, length, take, drop, decimal, sym, refl, ap, ◌∙◌, ap₂, append_assoc, append-nil, arith, length-append}
 use Rattle.std.proofs.lemmas.Fmt.{digits_decimal, digits_value-decimal, decimal_nonempty}
 use Rattle.std.proofs.lemmas.List.{take_at, drop_at}
+use Rattle.std.proofs.lemmas.List.Sums.{prefix_len-le-length}
 use Rattle.std.proofs.lemmas.Str.Parse.{IsNumeralModel, IsDigitsTest, numerals_by_fold}
 use Rattle.std.proofs.lemmas.Bool.{and_parts, and_from, leb-true, le-leb, ltb-true, ne_eqb}
 use Rattle.std.proofs.lemmas.Bool.Decides.{nat_tests}
@@ -25,7 +26,7 @@ no_front k = refl
 front_each : (k : Kind) (xs ys : List ℕ) → Each k xs → front k ys ≡ 0 → front k (xs ++ ys) ≡ length xs
 unfolding front
 front_each k [] ys e z = z
-front_each k (x ∷ xs) ys e z = ap₂ (λ (t : Bool) (n : ℕ). pick t (suc n) 0) e.0 (front_each k xs ys e.1 z)
+front_each k (x ∷ xs) ys e z = ap₂ (λ (t : Bool) (n : ℕ). cond t (1 + n) 0) e.0 (front_each k xs ys e.1 z) ∙ omega arith
 
 -- where no byte of a word stands in front, no digit does either
 no_digit : (ys : List ℕ) → front kind.Letter ys ≡ 0 → front kind.Digit ys ≡ 0
@@ -49,7 +50,7 @@ word_first xs ys h e = ap (λ n. drop n (xs ++ ys)) (no_space xs ys h e)
 -- a space before it makes no difference
 space_first : (xs : List ℕ) → next_word (32 ∷ xs) ≡ next_word xs
 unfolding front
-space_first xs = refl
+space_first xs = let one : 1 + front kind.Space xs ≡ suc (front kind.Space xs) = omega arith in ap (λ n. drop n (32 ∷ xs)) one
 
 pub space_word : (xs : List ℕ) → word_in (32 ∷ xs) ≡ word_in xs
 space_word xs = ap (λ bs. take (front kind.Letter bs) bs) (space_first xs)
@@ -111,12 +112,7 @@ no_number = refl
 
 pub front_le : (k : Kind) (xs : List ℕ) → front k xs ≤ length xs
 unfolding front
-front_le k [] = omega arith
-front_le k (x ∷ xs) = go (is_kind k x) (front_le k xs)
-  where
-    go : (t : Bool) → front k xs ≤ length xs → pick t (suc (front k xs)) 0 ≤ suc (length xs)
-    go true h = omega arith
-    go false h = omega arith
+front_le k xs = prefix_len-le-length (is_kind k) xs
 
 -- behind printed numbers, and before the next ones, a word ends
 pub spaced_ends : (ns rest : List ℕ) → front kind.Letter rest ≡ 0 → front kind.Letter (spaced ns ++ rest) ≡ 0

@@ -1,31 +1,15 @@
--- How many bytes of a kind stand in front of what is left of a line, and the number that digits write, one byte at a time.
-use Rattle.std.proofs.Common.{◌≡◌, ℕ, suc, ◌+◌, ◌-◌, ◌*◌, ◌<◌, ◌≤◌, min, true, false, List, [], ◌∷◌, length, get_or, drop, ap, ◌∙◌, inl, inr, arith}
-use Rattle.std.proofs.lemmas.List.{at_drop_more, at_drop_all}
-use Rattle.std.proofs.lemmas.Bool.{cases_lt}
+-- The bytes of a kind that are taken off the front, and the number that digits write.
+use Rattle.std.proofs.Common.{◌≡◌, ℕ, ◌+◌, ◌-◌, ◌*◌, min, List, length, take, fold, arith}
+use Rattle.std.proofs.lemmas.List.Folds.{fold_along, length-prefix_len}
 use Rattle.scan.specs.Words.{is_kind, front, value_on}
 use Rattle.scan.specs.declared.Kind.{Kind}
 
-pub front_more : (k : Kind) (xs : List ℕ) (i : ℕ) → i < length xs → is_kind k (get_or xs i 0) ≡ true → front k (drop i xs) ≡ suc (front k (drop (i + 1) xs))
+-- what is taken off has as many bytes as stand in front
+pub taken_length : (k : Kind) (bs : List ℕ) → length (take (front k bs) bs) ≡ front k bs
 unfolding front
-front_more k xs i h e = at_drop_more (front k) xs i 0 h ∙ rw e
-
-pub front_stop : (k : Kind) (xs : List ℕ) (i : ℕ) → i < length xs → is_kind k (get_or xs i 0) ≡ false → front k (drop i xs) ≡ 0
-unfolding front
-front_stop k xs i h e = at_drop_more (front k) xs i 0 h ∙ rw e
-
-pub front_end : (k : Kind) (xs : List ℕ) (i : ℕ) → length xs ≤ i → front k (drop i xs) ≡ 0
-unfolding front
-front_end k xs i h = at_drop_all (front k) xs i h
-
--- digits only add
-value_ge : (n : ℕ) (xs : List ℕ) → n ≤ value_on n xs
-unfolding value_on
-value_ge n [] = omega arith
-value_ge n (b ∷ bs) = omega (arith, value_ge (10 * n + (b - 48)) bs)
+taken_length k bs = length-prefix_len (is_kind k) bs
 
 -- a number that is too large stays too large, so it need not be known
-pub value_capped : (m n : ℕ) (xs : List ℕ) → min (value_on (min n m) xs) m ≡ min (value_on n xs) m
-value_capped m n xs = elim (cases_lt n m) [
-  | inl h ↦ (let e : min n m ≡ n = omega arith in rw e)
-  | inr h ↦ (let e : min n m ≡ m = omega arith in omega (arith, ap (λ v. value_on v xs) e, value_ge m xs, value_ge n xs))
-]
+pub value_capped : (m : ℕ) (bs : List ℕ) → fold (λ v b. min (min (v * 10) m + (b - 48)) m) 0 bs ≡ min (value_on 0 bs) m
+unfolding value_on
+value_capped m bs = fold_along (λ v b. min (min (v * 10) m + (b - 48)) m) (λ v b. 10 * v + (b - 48)) (λ v w. v ≡ min w m) (λ v w b e. omega arith) 0 0 bs (omega arith)

@@ -1,5 +1,5 @@
 -- Numbers read one after the other: what was read so far, and what is read from the rest, make the whole.
-use Rattle.std.proofs.Common.{◌≡◌, ℕ, zero, suc, ◌+◌, ◌-◌, ◌<◌, ◌≤◌, true, false, eqb, List, [], ◌∷◌, ◌++◌, length, sym, refl, ap, ◌∙◌, ap₂, append_assoc, append-nil, arith}
+use Rattle.std.proofs.Common.{◌≡◌, ℕ, zero, suc, ◌+◌, ◌-◌, ◌<◌, true, false, eqb, List, [], ◌∷◌, ◌++◌, length, sym, refl, ap, ◌∙◌, ap₂, append_assoc, append-nil, arith}
 use Rattle.meaning.specs.Lines.{pick}
 use Rattle.scan.specs.Words.{Read, got, bad, and_then, onto, next_word, number_in, numbers_in, list_in}
 
@@ -11,55 +11,45 @@ pub onto_none : (r : Read (List ℕ)) → onto [] r ≡ r
 onto_none (got ws rest) = refl
 onto_none (bad left) = refl
 
-pub numbers_more : (m i v : ℕ) (us bs rest : List ℕ) → i < m → number_in bs ≡ got v rest → onto us (numbers_in (m - i) bs) ≡ onto (us ++ (v ∷ [])) (numbers_in (m - (i + 1)) rest)
+-- what was read before, one number and what is read behind it; or a number that did not fit
+onto_next : (us : List ℕ) (r : Read ℕ) (f : List ℕ → Read (List ℕ)) → onto us (and_then r (λ v rest. onto (v ∷ []) (f rest))) ≡ and_then r (λ v rest. onto (us ++ (v ∷ [])) (f rest))
+onto_next us (got v rest) f = onto_onto us (v ∷ []) (f rest)
+onto_next us (bad left) f = refl
+
+-- the next of m numbers, of which i were read before
+pub numbers_next : (m i : ℕ) (us bs : List ℕ) (r : Read ℕ) → i < m → r ≡ number_in bs → onto us (numbers_in (m - i) bs) ≡ and_then r (λ v rest. onto (us ++ (v ∷ [])) (numbers_in (m - (i + 1)) rest))
 unfolding numbers_in
-numbers_more m i v us bs rest h e =
+numbers_next m i us bs r h e =
     let n : m - i ≡ suc (m - (i + 1)) = omega arith in
     ap (λ k. onto us (numbers_in k bs)) n
-    ∙ ap (λ r. onto us (and_then r (λ w end. onto (w ∷ []) (numbers_in (m - (i + 1)) end)))) e
-    ∙ onto_onto us (v ∷ []) (numbers_in (m - (i + 1)) rest)
+    ∙ ap (λ q. onto us (and_then q (λ v rest. onto (v ∷ []) (numbers_in (m - (i + 1)) rest)))) (sym e)
+    ∙ onto_next us r (numbers_in (m - (i + 1)))
 
-pub numbers_unfit : (m i left : ℕ) (us bs : List ℕ) → i < m → number_in bs ≡ bad left → onto us (numbers_in (m - i) bs) ≡ bad left
+-- all of them were
+pub numbers_done : (us bs : List ℕ) → onto us (numbers_in 0 bs) ≡ got us bs
 unfolding numbers_in
-numbers_unfit m i left us bs h e =
-    let n : m - i ≡ suc (m - (i + 1)) = omega arith in
-    ap (λ k. onto us (numbers_in k bs)) n
-    ∙ ap (λ r. onto us (and_then r (λ w end. onto (w ∷ []) (numbers_in (m - (i + 1)) end)))) e
+numbers_done us bs = ap (λ l. got l bs) (append-nil us)
 
-pub numbers_done : (m i : ℕ) (us bs : List ℕ) → m ≤ i → onto us (numbers_in (m - i) bs) ≡ got us bs
-unfolding numbers_in
-numbers_done m i us bs h =
-    let n : m - i ≡ 0 = omega arith in
-    ap (λ k. onto us (numbers_in k bs)) n ∙ ap (λ l. got l bs) (append-nil us)
-
-pub list_more : (m i v : ℕ) (us bs rest : List ℕ) → i < m → eqb (length (next_word bs)) 0 ≡ false → number_in bs ≡ got v rest →
-    onto us (list_in (m - i) bs) ≡ onto (us ++ (v ∷ [])) (list_in (m - (i + 1)) rest)
+-- the next number of a list, of at most m numbers
+pub list_next : (m i : ℕ) (us bs : List ℕ) (r : Read ℕ) → i < m → eqb (length (next_word bs)) 0 ≡ false → r ≡ number_in bs →
+    onto us (list_in (m - i) bs) ≡ and_then r (λ v rest. onto (us ++ (v ∷ [])) (list_in (m - (i + 1)) rest))
 unfolding list_in
-list_more m i v us bs rest h s e =
+list_next m i us bs r h s e =
     let n : m - i ≡ suc (m - (i + 1)) = omega arith in
     ap (λ k. onto us (list_in k bs)) n
-    ∙ ap₂ (λ t r. onto us (pick t (got [] []) (and_then r (λ w end. onto (w ∷ []) (list_in (m - (i + 1)) end))))) s e
-    ∙ onto_onto us (v ∷ []) (list_in (m - (i + 1)) rest)
+    ∙ ap₂ (λ t q. onto us (pick t (got [] []) (and_then q (λ v rest. onto (v ∷ []) (list_in (m - (i + 1)) rest))))) s (sym e)
+    ∙ onto_next us r (list_in (m - (i + 1)))
 
-pub list_unfit : (m i left : ℕ) (us bs : List ℕ) → i < m → eqb (length (next_word bs)) 0 ≡ false → number_in bs ≡ bad left → onto us (list_in (m - i) bs) ≡ bad left
-unfolding list_in
-list_unfit m i left us bs h s e =
-    let n : m - i ≡ suc (m - (i + 1)) = omega arith in
-    ap (λ k. onto us (list_in k bs)) n
-    ∙ ap₂ (λ t r. onto us (pick t (got [] []) (and_then r (λ w end. onto (w ∷ []) (list_in (m - (i + 1)) end))))) s e
-
--- at the end of the line, however many may still come
+-- the end of the line, however many may still come
 pub list_done : (n : ℕ) (us bs : List ℕ) → eqb (length (next_word bs)) 0 ≡ true → onto us (list_in n bs) ≡ got us []
 unfolding list_in
 list_done zero us bs e = ap (λ t. onto us (pick t (got [] []) (bad (length (next_word bs))))) e ∙ ap (λ l. got l []) (append-nil us)
-list_done (suc n) us bs e = ap (λ t. onto us (pick t (got [] []) (and_then (number_in bs) (λ w end. onto (w ∷ []) (list_in n end))))) e ∙ ap (λ l. got l []) (append-nil us)
+list_done (suc n) us bs e = ap (λ t. onto us (pick t (got [] []) (and_then (number_in bs) (λ v rest. onto (v ∷ []) (list_in n rest))))) e ∙ ap (λ l. got l []) (append-nil us)
 
 -- one number too many
-pub list_over : (m i : ℕ) (us bs : List ℕ) → m ≤ i → eqb (length (next_word bs)) 0 ≡ false → onto us (list_in (m - i) bs) ≡ bad (length (next_word bs))
+pub list_over : (us bs : List ℕ) → eqb (length (next_word bs)) 0 ≡ false → onto us (list_in 0 bs) ≡ bad (length (next_word bs))
 unfolding list_in
-list_over m i us bs h e =
-    let n : m - i ≡ 0 = omega arith in
-    ap (λ k. onto us (list_in k bs)) n ∙ ap (λ t. onto us (pick t (got [] []) (bad (length (next_word bs))))) e
+list_over us bs e = ap (λ t. onto us (pick t (got [] []) (bad (length (next_word bs))))) e
 
 -- as many numbers are read as were asked for
 pub numbers_length : (n : ℕ) (bs ns rest : List ℕ) → numbers_in n bs ≡ got ns rest → length ns ≡ n

@@ -1,6 +1,7 @@
 -- Words and numbers at the front of a line of bytes. Words are parted by one or more spaces; a number is decimal digits and below 2^32. Reading takes the front off and gives what stands behind it, or says how
 -- many bytes are left from the first that doesn't fit on. Definitions only.
-use Rattle.std.specs.Prelude.{ℕ, zero, suc, ◌+◌, ◌-◌, ◌*◌, min, Bool, not, ◌&&◌, List, [], ◌∷◌, ◌++◌, length, take, drop, decimal, ◌==◌, nat_le, nat_lt}
+use Rattle.std.specs.Prelude.{ℕ, zero, suc, ◌+◌, ◌-◌, ◌*◌, min, Bool, not, ◌&&◌, List, [], ◌∷◌, ◌++◌, length, take, drop, fold, decimal, ◌==◌, nat_le, nat_lt}
+use Rattle.std.specs.List.{prefix_len}
 use Rattle.meaning.specs.Lines.{pick}
 use Rattle.scan.specs.declared.Kind.{Kind}
 use Rattle.scan.specs.declared.Kind.TheVariants as kind
@@ -24,8 +25,7 @@ is_kind kind.InLine b = not (b == 10)
 
 -- how many bytes of a kind stand in front
 unfoldable pub front : Kind → List ℕ → ℕ
-front k [] = 0
-front k (b ∷ bs) = pick (is_kind k b) (suc (front k bs)) 0
+front k bs = prefix_len (is_kind k) bs
 
 -- the first line of a text, without the byte that ends it
 abbrev pub line_of : List ℕ → List ℕ
@@ -41,8 +41,7 @@ next_word bs = drop (front kind.Space bs) bs
 
 -- the number that digits write, after the digits of n
 unfoldable pub value_on : ℕ → List ℕ → ℕ
-value_on n [] = n
-value_on n (b ∷ bs) = value_on (10 * n + (b - 48)) bs
+value_on n bs = fold (λ m b. 10 * m + (b - 48)) n bs
 
 -- a number of which n digits stand in front. Where there is none, the first byte does not fit; a number that four bytes can't hold does not fit at its first digit, and what follows it but is no space, where it stands
 abbrev pub number_of : ℕ → List ℕ → Read ℕ

@@ -4,11 +4,11 @@
 // less that.
 #![tactic(auto)]
 
-ghost use Rattle.std.specs.Prelude.{◌≡◌, ◌<◌, ◌≤◌, min, length, drop};
+ghost use Rattle.std.specs.Prelude.{◌≡◌, ◌-◌, ◌<◌, ◌≤◌, min, length, take, drop};
 ghost use Rattle.scan.specs.Told.{ListTold, number_told, numbers_told};
 ghost use Rattle.scan.specs.Words.{front, is_kind, line_of, list_in, next_word, number_in, numbers_in, past_line, past_word, value_on, word_in};
 
-use std::alloc::Global;
+use std::alloc::{AllocFailed, Global};
 
 // Kinds of bytes: a space, a byte of a word, which is any other, a decimal digit, and a byte of a
 // line, which is any but the one that ends it.
@@ -20,40 +20,53 @@ pub enum Kind {
     InLine,
 }
 
-// A number, and what stands behind it.
+// What was taken off the front of some bytes, a word, a line or numbers, and what stands behind it.
 #[derive(Clone, Copy)]
-pub struct Number<'a> {
-    pub value: u32,
+pub struct Front<'a, T> {
+    pub value: T,
     pub rest: &'a [u8],
 }
 
-// A word, and what stands behind it.
+// Bytes that don't fit on: so many are left from the first of them.
 #[derive(Clone, Copy)]
-pub struct Word<'a> {
-    pub word: &'a [u8],
-    pub rest: &'a [u8],
+pub struct Unfit {
+    pub left: usize,
 }
 
-// A line of a text, and what stands behind it.
-#[derive(Clone, Copy)]
-pub struct Line<'a> {
-    pub line: &'a [u8],
-    pub rest: &'a [u8],
-}
-
-// A few numbers, and what stands behind them.
-#[derive(Clone, Copy)]
-pub struct Numbers<'a> {
-    pub values: [u32; 5],
-    pub rest: &'a [u8],
-}
-
-// Why a list was not read: so many bytes are left from the first that doesn't fit on, or there is
-// no memory for it.
+// Why a list was not read: bytes that don't fit on, or there is no memory for it.
 #[derive(Clone, Copy)]
 pub enum Unread {
-    Unfit { left: usize },
+    Unfit(Unfit),
     NoMemory,
+}
+
+impl From<Unfit> for Unread {
+    ghost use Rattle.scan.specs.declared.Unread.TheVariants as unread;
+
+    ghost from_gives = { λ unfit r. r ≡ unread.Unfit unfit };
+
+    fn from(unfit: Unfit) -> Unread {
+        Unread::Unfit(unfit)
+    }
+}
+
+impl<T: Drop> From<AllocFailed<T>> for Unread {
+    ghost use Rattle.scan.specs.declared.Unread.TheVariants as unread;
+
+    ghost from_gives = { λ _ r. r ≡ unread.NoMemory };
+
+    fn from(_failed: AllocFailed<T>) -> Unread {
+        Unread::NoMemory
+    }
+}
+
+impl Unfit {
+    // The place in a line of the first byte that doesn't fit on.
+    pub fn place(self, line: &[u8]) -> usize
+        ensures { result ≡ length line.now - self.left }
+    {
+        line.len().saturating_sub(self.left)
+    }
 }
 
 impl Kind {
@@ -64,116 +77,145 @@ impl Kind {
         match self {
             Kind::Space => byte == b' ',
             Kind::Letter => byte != b' ',
-            Kind::Digit => b'0' <= byte && byte <= b'9',
+            Kind::Digit => matches!(byte, b'0'..=b'9'),
             Kind::InLine => byte != b'\n',
         }
     }
 }
 
 // How many bytes of a kind stand in front.
+#[tactic(auto, unfolding(crate::specs::Words::front))]
 fn count_front(kind: Kind, line: &[u8]) -> usize
-    ensures { (result ≡ front kind line.now) × (result ≤ length line.now) }
+    ensures front { result ≡ front kind line.now }
+    ensures within { result ≤ length line.now }
 {
-    for (i, byte) in line.iter().enumerate() {
-        if !kind.holds(*byte) {
-            return i;
-        }
-    }
-    line.len()
+    line.iter().take_while(|byte| kind.holds(**byte)).count()
 }
 
-// The line behind its first n bytes.
-fn behind(line: &[u8], n: usize) -> &[u8]
-    requires { n ≤ length line.now }
-    ensures { result.now ≡ drop n line.now }
+// The bytes of a kind in front, and what stands behind them.
+fn take_front(kind: Kind, line: &[u8]) -> Front<'_, &[u8]>
+    ensures value { result.value.now ≡ take (front kind line.now) line.now }
+    ensures rest { result.rest.now ≡ drop (front kind line.now) line.now }
 {
-    &line[n..]
+    let (value, rest) = line.split_at(count_front(kind, line));
+    Front { value, rest }
 }
 
 // The line from its next word on.
 pub fn skip_spaces(line: &[u8]) -> &[u8]
     ensures { result.now ≡ next_word line.now }
 {
-    behind(line, count_front(Kind::Space, line))
+    take_front(Kind::Space, line).rest
 }
 
-// What a number has at most here: more than four bytes can hold is all the same.
-const TOO_LARGE: u64 = 4_294_967_296;
-
-// The number that digits write, or 2^32 where that is smaller.
+// The number that digits write, or the largest that eight bytes hold where that is smaller.
 fn value_of(digits: &[u8]) -> u64
-    ensures { result ≡ min (value_on 0 digits.now) 4294967296 }
+    ensures { result ≡ min (value_on 0 digits.now) 18446744073709551615 }
 {
-    let mut value = 0u64;
-    for digit in digits {
-        value = (value * 10 + u64::from(digit.saturating_sub(b'0'))).min(TOO_LARGE);
-    }
-    value
+    digits.iter().fold(0u64, |value, digit| {
+        value
+            .saturating_mul(10)
+            .saturating_add(u64::from(digit.saturating_sub(b'0')))
+    })
 }
 
 // The first line of a text, without the byte that ends it.
-pub fn read_line(text: &[u8]) -> Line<'_>
-    ensures line { result.line.now ≡ line_of text.now }
+pub fn read_line(text: &[u8]) -> Front<'_, &[u8]>
+    ensures line { result.value.now ≡ line_of text.now }
     ensures rest { result.rest.now ≡ past_line text.now }
     ensures shorter { 0 < length text.now → length result.rest.now < length text.now }
 {
-    let length = count_front(Kind::InLine, text);
-    let end = text.len().min(length + 1);
-    Line {
-        line: &text[0..length],
-        rest: behind(text, end),
+    let line = take_front(Kind::InLine, text);
+    let rest = match line.rest {
+        [_end, rest @ ..] => rest,
+        [] => line.rest,
+    };
+    Front {
+        value: line.value,
+        rest,
+    }
+}
+
+// The lines of a text that are left, one after the other, each without the byte that ends it. What
+// stands behind the lines that were taken is there to be read in another way.
+#[derive(Clone, Copy)]
+pub struct Lines<'a> {
+    pub rest: &'a [u8],
+}
+
+impl<'a> Lines<'a> {
+    // The lines of a text.
+    pub fn new(text: &'a [u8]) -> Lines<'a>
+        ensures { result.rest.now ≡ text.now }
+    {
+        Lines { rest: text }
+    }
+}
+
+impl<'a> Iterator for Lines<'a> {
+    ghost use Rattle.std.specs.Iterator.{at_most};
+    ghost use Rattle.scan.specs.Told.{TakesLine};
+
+    type Item = &'a [u8];
+
+    ghost next_gives = { TakesLine };
+
+    ghost remaining = { λ s. at_most (length s.rest.now) };
+
+    fn next(&mut self) -> Option<&'a [u8]> {
+        if self.rest.is_empty() {
+            return None;
+        }
+        let line = read_line(self.rest);
+        self.rest = line.rest;
+        Some(line.value)
     }
 }
 
 // The next number; or how many bytes are left from what doesn't fit on.
-pub fn read_number(line: &[u8]) -> Result<Number<'_>, usize>
+#[tactic(auto, using(crate::proofs::Fronts::taken_length))]
+pub fn read_number(line: &[u8]) -> Result<Front<'_, u32>, Unfit>
     ensures { number_told result ≡ number_in line.now }
 {
     let here = skip_spaces(line);
-    let digits = count_front(Kind::Digit, here);
-    if digits == 0 {
-        return Err(here.len());
+    let digits = take_front(Kind::Digit, here);
+    if digits.value.is_empty() {
+        return Err(Unfit { left: here.len() });
     }
-    let value = value_of(&here[0..digits]);
-    if value >= TOO_LARGE {
-        return Err(here.len());
+    let Ok(value) = u32::try_from(value_of(digits.value)) else {
+        return Err(Unfit { left: here.len() });
+    };
+    let rest = digits.rest;
+    if !take_front(Kind::Letter, rest).value.is_empty() {
+        return Err(Unfit { left: rest.len() });
     }
-    let rest = behind(here, digits);
-    if count_front(Kind::Letter, rest) > 0 {
-        return Err(rest.len());
-    }
-    Ok(Number {
-        value: value as u32,
-        rest,
-    })
+    Ok(Front { value, rest })
 }
 
 // The next word, empty where there is none.
-pub fn read_word(line: &[u8]) -> Word<'_>
-    ensures word { result.word.now ≡ word_in line.now }
+pub fn read_word(line: &[u8]) -> Front<'_, &[u8]>
+    ensures word { result.value.now ≡ word_in line.now }
     ensures rest { result.rest.now ≡ past_word line.now }
 {
-    let here = skip_spaces(line);
-    let letters = count_front(Kind::Letter, here);
-    Word {
-        word: &here[0..letters],
-        rest: behind(here, letters),
-    }
+    take_front(Kind::Letter, skip_spaces(line))
 }
 
 // The next numbers, as many as asked for, but at most five. What stands beyond them means nothing.
-pub fn read_numbers(line: &[u8], count: usize) -> Result<Numbers<'_>, usize>
+pub fn read_numbers(line: &[u8], count: usize) -> Result<Front<'_, [u32; 5]>, Unfit>
     ensures { numbers_told (min count 5) result ≡ numbers_in (min count 5) line.now }
 {
     let most = count.min(5);
     let mut values = [0; 5];
     let mut rest = line;
-    for i in 0..most {
+    for value in &mut values[..most] {
         let next = read_number(rest)?;
-        values[i] = next.value;
+        *value = next.value;
         rest = next.rest;
     }
-    Ok(Numbers { values, rest })
+    Ok(Front {
+        value: values,
+        rest,
+    })
 }
 
 // The most numbers that a list has: as many as a byte can count.
@@ -189,18 +231,13 @@ pub fn read_list(heap: Global, line: &[u8]) -> Result<Vec<u32>, Unread>
         if skip_spaces(rest).is_empty() {
             return Ok(list);
         }
-        let next = match read_number(rest) {
-            Ok(next) => next,
-            Err(left) => return Err(Unread::Unfit { left }),
-        };
-        if list.push(next.value).is_err() {
-            return Err(Unread::NoMemory);
-        }
+        let next = read_number(rest)?;
+        list.push(next.value)?;
         rest = next.rest;
     }
-    let over = skip_spaces(rest).len();
-    if over > 0 {
-        return Err(Unread::Unfit { left: over });
+    let over = skip_spaces(rest);
+    if !over.is_empty() {
+        return Err(Unread::Unfit(Unfit { left: over.len() }));
     }
     Ok(list)
 }

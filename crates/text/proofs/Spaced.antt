@@ -1,5 +1,5 @@
 -- Numbers in a row, one more at the end.
-use Rattle.std.proofs.Common.{◌≡◌, ℕ, ◌+◌, ◌<◌, ◌≤◌, List, [], ◌∷◌, ◌++◌, map, length, get_or, take, decimal, sym, refl, ap, ◌∙◌, append_assoc, append-nil}
+use Rattle.std.proofs.Common.{◌≡◌, ℕ, ◌+◌, ◌<◌, ◌≤◌, List, [], ◌∷◌, ◌++◌, length, get_or, take, decimal, sym, refl, ap, ◌∙◌, append_assoc, append-nil}
 use Rattle.std.proofs.lemmas.List.{take_more, take_all}
 use Rattle.scan.specs.Words.{spaced}
 
@@ -17,8 +17,3 @@ spaced_none ns = refl
 
 pub spaced_all : (ns : List ℕ) (i : ℕ) → length ns ≤ i → spaced (take i ns) ≡ spaced ns
 spaced_all ns i h = ap spaced (take_all i ns h)
-
--- numbers that are their own values
-pub own_values : (ns : List ℕ) → map (λ n. n) ns ≡ ns
-own_values [] = refl
-own_values (n ∷ ns) = ap (λ rest. n ∷ rest) (own_values ns)

@@ -1,5 +1,6 @@
 -- Calls as lines: `book 1 2 on 0 1`. How a call is printed, and which call a line is, or where it ceases to be one. Definitions only.
-use Rattle.std.specs.Prelude.{◌≡◌, ℕ, suc, ◌-◌, ◌≤◌, true, List, [], ◌∷◌, ◌++◌, length, codes, ◌==◌, nat_lt, slice_index_or}
+use Rattle.std.specs.Prelude.{◌≡◌, ℕ, ◌-◌, ◌≤◌, true, List, [], ◌∷◌, ◌++◌, length, codes, ◌==◌, nat_lt, slice_index_or}
+use Rattle.std.specs.List.{position_or_len}
 use Rattle.std.specs.Str.{bytes_eq}
 use Rattle.meaning.specs.Lines.{pick}
 use Rattle.meaning.specs.Calls.{Call, garbled, call_number}
@@ -31,8 +32,7 @@ call_line c = line_from (call_number c) (fields c) (listing c)
 
 -- the place of a word among others; their number where it is none of them
 unfoldable pub place_among : List ℕ → List (List ℕ) → ℕ
-place_among w [] = 0
-place_among w (v ∷ vs) = pick (bytes_eq w v) 0 (suc (place_among w vs))
+place_among w vs = position_or_len (bytes_eq w) vs
 
 -- the list of a call of number k, up to the end of the line: behind its word; nothing more may come where the call has none
 unfoldable pub listing_in : ℕ → List ℕ → Read (List ℕ)

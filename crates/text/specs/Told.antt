@@ -16,7 +16,7 @@ line_means l = call_of l.call (vec_items l.list)
 -- a call up to the end of the line, or how many bytes are left; want of memory says nothing
 abbrev pub RestTold : Result CallLine Unread → Read Call → Type 0
 RestTold (Ok l) r = r ≡ got (line_means l) []
-RestTold (Err (unread.Unfit left)) r = r ≡ bad left
+RestTold (Err (unread.Unfit unfit)) r = r ≡ bad unfit.left
 RestTold (Err unread.NoMemory) r = Unit {0}
 
 -- the call that a line is, or the place from which on it is none; want of memory says nothing

@@ -1,5 +1,5 @@
 // Answers as lines, and numbers in a row.
-ghost use Rattle.std.specs.Prelude.{◌≡◌, ℕ, map, Some};
+ghost use Rattle.std.specs.Prelude.{◌≡◌, ℕ, map, decimal, Some};
 ghost use Rattle.protocol.specs.Forms.{answer_of};
 ghost use Rattle.scan.specs.Words.{spaced};
 ghost use Rattle.std.specs.Fmt.{WritesOnOk};
@@ -27,40 +27,15 @@ fn stands_word(stands: u64) -> &'static str
     }
 }
 
-// Numbers of several widths, written alike.
-pub trait Figure: Copy {
-    ghost value: { Self → ℕ };
-
-    fn figure(self) -> u64
-        ensures { result ≡ value self };
-}
-
-impl Figure for u32 {
-    ghost value = { λ n. n };
-
-    fn figure(self) -> u64 {
-        u64::from(self)
-    }
-}
-
-impl Figure for u64 {
-    ghost value = { λ n. n };
-
-    fn figure(self) -> u64 {
-        self
-    }
-}
-
-// Writes numbers, each behind a space.
-pub fn write_spaced<W: fmt::Write, N: Figure>(
+// Writes numbers of any width, each behind a space.
+pub fn write_spaced<W: fmt::Write, N: fmt::Display>(
     f: &mut fmt::Formatter<W>,
     numbers: &[N],
 ) -> fmt::Result
-    ensures { WritesOnOk W.Write.write_str_gives f.old result (spaced (map N.Figure.value numbers.now)) f.new }
+    ensures { (v : N → ℕ) → ((n : N) → N.output n ≡ Some (decimal (v n))) → WritesOnOk W.write_str_gives f.old result (spaced (map v numbers.now)) f.new }
 {
     for number in numbers {
-        let n = number.figure();
-        write!(f, " {n}")?;
+        write!(f, " {number}")?;
     }
     Ok(())
 }
@@ -87,31 +62,19 @@ impl fmt::Display for AnswerLine<'_> {
                 let word = stands_word(stands);
                 write!(f, "{booking} {word}")
             }
-            Answer::Stands {
-                stands: 0,
-                until: _,
-                paid: _,
-            } => write!(f, "waits"),
+            Answer::Stands { stands: 0, .. } => write!(f, "waits"),
             Answer::Stands {
                 stands: 1,
                 until,
-                paid: _,
+                ..
             } => write!(f, "held until {until}"),
             Answer::Stands {
                 stands: 2,
-                until: _,
                 paid,
+                ..
             } => write!(f, "paid {paid}"),
-            Answer::Stands {
-                stands: _,
-                until: _,
-                paid: 0,
-            } => write!(f, "gone"),
-            Answer::Stands {
-                stands: _,
-                until: _,
-                paid,
-            } => write!(f, "gone paid {paid}"),
+            Answer::Stands { paid: 0, .. } => write!(f, "gone"),
+            Answer::Stands { paid, .. } => write!(f, "gone paid {paid}"),
             Answer::Sold => write_row(f, self.list),
         }
     }

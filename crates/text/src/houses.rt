@@ -1,41 +1,35 @@
 // The line that opens a house, `house GAP HOLD LEGS FARES BOOKINGS`: the least time between two
 // legs, how long a hold lasts, and how many legs, fares and bookings there may be.
 ghost use Rattle.std.specs.Prelude.{length, Some};
-ghost use Rattle.text.specs.HouseLines.{HouseTold, OpensBack, house_in, house_line, numbers_of};
+ghost use Rattle.text.specs.HouseLines.{HouseRead, HouseTold, OpensBack, house_in, house_line, numbers_of};
 
 use crate::answers::write_spaced;
-use crate::is_word;
-use scan::{read_numbers, read_word, skip_spaces};
+use limits::Limits;
+use scan::{Unfit, read_numbers, read_word, skip_spaces};
 use std::fmt;
 
-// The five numbers of such a line.
+// The line that opens a house with these limits.
 #[derive(Clone, Copy)]
-pub struct HouseLine {
-    pub gap: u32,
-    pub hold: u32,
-    pub legs: u32,
-    pub fares: u32,
-    pub bookings: u32,
-}
+pub struct HouseLine(pub Limits);
 
-// The house that a line opens; or the place of the first byte from which on it opens none.
-pub fn read_house(line: &[u8]) -> Result<HouseLine, usize>
-    ensures { HouseTold result (length line.now) (house_in line.now) }
+// The limits of the house that a line opens; or how many bytes are left from the first that doesn't
+// fit on.
+fn find_house(line: &[u8]) -> Result<Limits, Unfit>
+    ensures { HouseRead result (house_in line.now) }
 {
     let first = read_word(line);
-    if !is_word(first.word, "house") {
-        return Err(line.len().saturating_sub(skip_spaces(line).len()));
+    if first.value != "house".as_bytes() {
+        return Err(Unfit {
+            left: skip_spaces(line).len(),
+        });
     }
-    let read = match read_numbers(first.rest, 5) {
-        Ok(read) => read,
-        Err(left) => return Err(line.len().saturating_sub(left)),
-    };
-    let over = skip_spaces(read.rest).len();
-    if over > 0 {
-        return Err(line.len().saturating_sub(over));
+    let read = read_numbers(first.rest, 5)?;
+    let over = skip_spaces(read.rest);
+    if !over.is_empty() {
+        return Err(Unfit { left: over.len() });
     }
-    let [gap, hold, legs, fares, bookings] = read.values;
-    Ok(HouseLine {
+    let [gap, hold, legs, fares, bookings] = read.value;
+    Ok(Limits {
         gap,
         hold,
         legs,
@@ -44,17 +38,25 @@ pub fn read_house(line: &[u8]) -> Result<HouseLine, usize>
     })
 }
 
+// The limits of the house that a line opens; or the place of the first byte from which on it opens
+// none.
+pub fn read_house(line: &[u8]) -> Result<Limits, usize>
+    ensures { HouseTold result (length line.now) (house_in line.now) }
+{
+    find_house(line).map_err(|unfit| unfit.place(line))
+}
+
 impl fmt::Display for HouseLine {
-    ghost output = { λ h. Some (house_line (numbers_of h)) };
+    ghost output = { λ h. Some (house_line (numbers_of h.0)) };
 
     fn fmt<W: fmt::Write>(&self, f: &mut fmt::Formatter<W>) -> fmt::Result {
-        let HouseLine {
+        let Limits {
             gap,
             hold,
             legs,
             fares,
             bookings,
-        } = *self;
+        } = self.0;
         f.write_str("house")?;
         write_spaced(f, &[gap, hold, legs, fares, bookings])
     }

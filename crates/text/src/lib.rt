@@ -1,14 +1,14 @@
 #![tactic(auto)]
 
-ghost use Rattle.std.specs.Prelude.{◌≡◌, ◌≤◌, [], Some, None, slice_index_or};
-ghost use Rattle.std.specs.Str.{bytes_eq};
+ghost use Rattle.std.specs.Prelude.{◌≡◌, [], MatchOption, slice_index_or};
+ghost use Rattle.protocol.specs.Verbs.{verb_number};
 ghost use Rattle.scan.specs.Told.{ListTold};
 ghost use Rattle.text.specs.CallLines.{ReadsBack, call_in, joint, line_call, listing_in, place_among, rest_in, verbs};
 ghost use Rattle.text.specs.Places.{PlacesTold};
 ghost use Rattle.text.specs.Told.{LineTold, RestTold};
 
-use protocol::{Call, field_count, takes_list};
-use scan::{Unread, read_list, read_numbers, read_word, skip_spaces};
+use protocol::{Call, Verb};
+use scan::{Unfit, Unread, read_list, read_numbers, read_word, skip_spaces};
 use std::alloc::Global;
 
 // A call, and the list beside it: limits or legs, empty where the call has none.
@@ -29,89 +29,70 @@ pub mod answers;
 pub mod calls;
 pub mod houses;
 
-// The word with which the line of a call begins, by the call's number; none beyond 10.
-fn verb(number: u8) -> &'static str
-    ensures { result.now ≡ slice_index_or verbs number [] }
+// The word with which the line of a call begins.
+fn word_of(verb: Verb) -> &'static str
+    ensures { result.now ≡ slice_index_or verbs (verb_number verb) [] }
 {
-    match number {
-        0 => "open",
-        1 => "file",
-        2 => "book",
-        3 => "pay",
-        4 => "cancel",
-        5 => "limits",
-        6 => "ticks",
-        7 => "free",
-        8 => "price",
-        9 => "booking",
-        10 => "leg",
-        _ => "",
+    match verb {
+        Verb::Open => "open",
+        Verb::File => "file",
+        Verb::Book => "book",
+        Verb::Pay => "pay",
+        Verb::Cancel => "cancel",
+        Verb::Limits => "limits",
+        Verb::Ticks => "ticks",
+        Verb::Free => "free",
+        Verb::Price => "price",
+        Verb::Booking => "booking",
+        Verb::Leg => "leg",
     }
 }
 
 // The word before the list of a call.
-fn list_word(number: u8) -> &'static str
-    ensures { result.now ≡ joint number }
+fn list_word(verb: Verb) -> &'static str
+    ensures { result.now ≡ joint (verb_number verb) }
 {
-    match number {
-        0 => "limits",
-        5 => "to",
+    match verb {
+        Verb::Open => "limits",
+        Verb::Limits => "to",
         _ => "on",
     }
 }
 
-// Is a word this one.
-fn is_word(word: &[u8], text: &str) -> bool
-    ensures { result ≡ bytes_eq word.now text.now }
+// The verb whose lines begin with a word.
+fn find_verb(word: &[u8]) -> Option<Verb>
+    ensures { MatchOption result (place_among word.now verbs ≡ 11) (λ v. place_among word.now verbs ≡ verb_number v) }
 {
-    word == text.as_bytes()
+    Verb::ALL
+        .iter()
+        .copied()
+        .find(|verb| word == word_of(*verb).as_bytes())
 }
 
-// The number of the call that a word begins.
-fn verb_number(word: &[u8]) -> Option<u8>
-    ensures { elim result [ Some k ↦ (k ≤ 10) × (place_among word.now verbs ≡ k) | None ↦ place_among word.now verbs ≡ 11 ] }
+// The list of a call of this verb, up to the end of the line.
+fn read_listing(heap: Global, verb: Verb, line: &[u8]) -> Result<Vec<u32>, Unread>
+    ensures { ListTold result (listing_in (verb_number verb) line.now) }
 {
-    for number in 0..11 {
-        if is_word(word, verb(number)) {
-            return Some(number);
-        }
-    }
-    None
-}
-
-// The list of a call of this number, up to the end of the line.
-fn read_listing(heap: Global, number: u8, line: &[u8]) -> Result<Vec<u32>, Unread>
-    ensures { ListTold result (listing_in number line.now) }
-{
-    if takes_list(number) {
+    if verb.takes_list() {
         let next = read_word(line);
-        if is_word(next.word, list_word(number)) {
+        if next.value == list_word(verb).as_bytes() {
             return read_list(heap, next.rest);
         }
     } else if skip_spaces(line).is_empty() {
         return Ok(Vec::new(heap));
     }
-    Err(Unread::Unfit {
+    Err(Unread::Unfit(Unfit {
         left: skip_spaces(line).len(),
-    })
+    }))
 }
 
-// The call of this number that a line is behind its first word.
-fn read_rest(heap: Global, number: u8, line: &[u8]) -> Result<CallLine, Unread>
-    requires { number ≤ 10 }
-    ensures { RestTold result (rest_in number line.now) }
+// The call of this verb that a line is behind its first word.
+fn read_rest(heap: Global, verb: Verb, line: &[u8]) -> Result<CallLine, Unread>
+    ensures { RestTold result (rest_in (verb_number verb) line.now) }
 {
-    let Some(count) = field_count(number) else {
-        unreachable()
-    };
-    let fields = match read_numbers(line, count) {
-        Ok(fields) => fields,
-        Err(left) => return Err(Unread::Unfit { left }),
-    };
-    let list = read_listing(heap, number, fields.rest)?;
-    let Some(call) = Call::new(number, fields.values) else {
-        unreachable()
-    };
+    let fields = read_numbers(line, verb.field_count())?;
+    let list = read_listing(heap, verb, fields.rest)?;
+    let call = Call::with(verb, fields.value);
     Ok(CallLine { call, list })
 }
 
@@ -120,12 +101,12 @@ fn find_call(heap: Global, line: &[u8]) -> Result<CallLine, Unread>
     ensures { RestTold result (call_in line.now) }
 {
     let first = read_word(line);
-    let Some(number) = verb_number(first.word) else {
-        return Err(Unread::Unfit {
+    let Some(verb) = find_verb(first.value) else {
+        return Err(Unread::Unfit(Unfit {
             left: skip_spaces(line).len(),
-        });
+        }));
     };
-    read_rest(heap, number, first.rest)
+    read_rest(heap, verb, first.rest)
 }
 
 // The call that a line is; or the place of the first byte from which on it is none, which is the
@@ -133,13 +114,12 @@ fn find_call(heap: Global, line: &[u8]) -> Result<CallLine, Unread>
 pub fn read_call(heap: Global, line: &[u8]) -> Result<CallLine, NoCall>
     ensures { LineTold result (line_call line.now) }
 {
-    match find_call(heap, line) {
-        Ok(call) => Ok(call),
-        Err(Unread::Unfit { left }) => Err(NoCall::Unreadable {
-            place: line.len().saturating_sub(left),
-        }),
-        Err(Unread::NoMemory) => Err(NoCall::NoMemory),
-    }
+    find_call(heap, line).map_err(|unread| match unread {
+        Unread::Unfit(unfit) => NoCall::Unreadable {
+            place: unfit.place(line),
+        },
+        Unread::NoMemory => NoCall::NoMemory,
+    })
 }
 
 // For every call that can be written in its fields, reading the line that is printed for it gives

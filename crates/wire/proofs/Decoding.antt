@@ -29,6 +29,10 @@ whole bs k h l = rw (le-ltb 10 k h, le-ltb (length bs) (extent k bs) (omega arit
 first : (bs : List ℕ) (k : ℕ) → 0 < length bs → k ≡ get_or bs 0 0 → get_or bs 0 255 ≡ k
 first bs k h e = get_or_default bs 0 255 0 h ∙ sym e
 
+-- the first byte of a row, by its parts
+pub first_of : (bs rest : List ℕ) (k b : ℕ) → bs ≡ b ∷ rest → k ≡ b → k ≡ get_or bs 0 0
+first_of bs rest k b e f = f ∙ sym (ap (λ w. get_or w 0 0) e)
+
 pub decoded_empty : (bs : List ℕ) (n : ℕ) → length bs ≡ 0 → n ≡ 0 → garbled n ≡ decoded bs
 decoded_empty [] n e z = ap garbled z ∙ sym (unknown [] 255 (lit< tt))
 decoded_empty (b ∷ bs) n e z = absurd (omega arith)

@@ -3,6 +3,8 @@ use Rattle.std.proofs.Common.{◌≡◌, ℕ, ◌+◌, ◌*◌, ◌≤◌, true,
 use Rattle.meaning.specs.Lines.{pick}
 use Rattle.meaning.specs.Calls.{call_number}
 use Rattle.protocol.specs.Forms.{call_of, fields, listing, field_count, has_list, TakenApart}
+use Rattle.protocol.specs.Verbs.{verb_number, verb_of}
+use Rattle.protocol.specs.declared.verbs.Verb.{Verb}
 use Rattle.protocol.specs.declared.Call.{Call}
 use Rattle.protocol.specs.declared.Call.TheVariants as call
 use Rattle.protocol.proofs.Wholes.{nothing_lost}
@@ -61,39 +63,49 @@ pub record Plain (c : Call) (k n : ℕ) (fs list : List ℕ) : Type 0 where
   pub row : encoded (call_of c list) ≡ k ∷ row_of 4 (take n fs)
   pub long : length (encoded (call_of c list)) ≡ 1 + 4 * n
   pub unlisted : listing (call_of c list) ≡ []
+  pub counted : length (take n fs) ≡ n
 
 pub record Listed (c : Call) (k n : ℕ) (fs list : List ℕ) : Type 0 where
   pub row : encoded (call_of c list) ≡ (k ∷ row_of 4 (take n fs)) ++ (length list ∷ row_of 4 list)
-  pub long : length (encoded (call_of c list)) ≡ 1 + 4 * n + 1 + 4 * length list
+  pub long : length (encoded (call_of c list)) ≡ 2 + 4 * n + 4 * length list
   pub listed : listing (call_of c list) ≡ list
-  pub head : length (k ∷ row_of 4 (take n fs)) ≡ 1 + 4 * n
+  pub counted : length (take n fs) ≡ n
 
 -- a call has as many numbers as its number says
-head_length : (c : Call) (k n : ℕ) (fs list : List ℕ) → TakenApart c k fs → n ≡ field_count k → length (k ∷ row_of 4 (take n fs)) ≡ 1 + 4 * n
-head_length c k n fs list t e =
-    let l : length (take n fs) ≡ n =
-    ap (λ m. length (take m fs)) e ∙ (ap length (t.fields_are list) ∙ ((nothing_lost (call_of c list) (is_call c list)).counted ∙ (ap field_count (sym (t.number_is list)) ∙ sym e))) in
-    let r = row_length 4 (take n fs) in
-    omega arith
+counts : (c : Call) (k n : ℕ) (fs list : List ℕ) → TakenApart c k fs → n ≡ field_count k → length (take n fs) ≡ n
+counts c k n fs list t e =
+    ap (λ m. length (take m fs)) e ∙ (ap length (t.fields_are list) ∙ ((nothing_lost (call_of c list) (is_call c list)).counted ∙ (ap field_count (sym (t.number_is list)) ∙ sym e)))
 
-pub plain : (c : Call) (k n : ℕ) (fs list : List ℕ) → TakenApart c k fs → n ≡ field_count k → false ≡ has_list k → Plain c k n fs list
-plain c k n fs list t e h =
+-- a call taken apart by its verb
+by_verb : (c : Call) (v : Verb) (fs : List ℕ) → v ≡ verb_of c → TakenApart c (verb_number (verb_of c)) fs → TakenApart c (verb_number v) fs
+by_verb c v fs e t = rw e t
+
+pub plain : (c : Call) (v : Verb) (n : ℕ) (fs list : List ℕ) → v ≡ verb_of c → TakenApart c (verb_number (verb_of c)) fs → n ≡ field_count (verb_number v) → false ≡ has_list (verb_number v) →
+    Plain c (verb_number v) n fs list
+plain c v n fs list is apart e h =
+    let k : ℕ = verb_number v in
+    let t = by_verb c v fs is apart in
     let r : encoded (call_of c list) ≡ k ∷ row_of 4 (take n fs) = by_parts c k n fs list t e ∙ in_bytes_plain k (take n fs) _ h in
+    let l = counts c k n fs list t e in
     record {
       row = r;
-      long = ap length r ∙ head_length c k n fs list t e;
+      long = ap length r ∙ (let w = row_length 4 (take n fs) in omega arith);
       unlisted = listing_of c list ∙ ap (λ b. pick b list []) (ap has_list (sym (t.number_is list)) ∙ sym h);
+      counted = l;
     }
 
-pub listed : (c : Call) (k n : ℕ) (fs list : List ℕ) → TakenApart c k fs → n ≡ field_count k → true ≡ has_list k → Listed c k n fs list
-listed c k n fs list t e h =
-    let l : listing (call_of c list) ≡ list = listing_of c list ∙ ap (λ b. pick b list []) (ap has_list (sym (t.number_is list)) ∙ sym h) in
+pub listed : (c : Call) (v : Verb) (n : ℕ) (fs list : List ℕ) → v ≡ verb_of c → TakenApart c (verb_number (verb_of c)) fs → n ≡ field_count (verb_number v) → true ≡ has_list (verb_number v) →
+    Listed c (verb_number v) n fs list
+listed c v n fs list is apart e h =
+    let k : ℕ = verb_number v in
+    let t = by_verb c v fs is apart in
+    let own : listing (call_of c list) ≡ list = listing_of c list ∙ ap (λ b. pick b list []) (ap has_list (sym (t.number_is list)) ∙ sym h) in
     let r : encoded (call_of c list) ≡ (k ∷ row_of 4 (take n fs)) ++ (length list ∷ row_of 4 list) =
-    by_parts c k n fs list t e ∙ (ap (λ x. in_bytes k (take n fs) x) l ∙ in_bytes_listed k (take n fs) list h) in
-    let w = row_length 4 list in let v = head_length c k n fs list t e in
+    by_parts c k n fs list t e ∙ (ap (λ x. in_bytes k (take n fs) x) own ∙ in_bytes_listed k (take n fs) list h) in
+    let v = row_length 4 (take n fs) in let w = row_length 4 list in let l = counts c k n fs list t e in
     record {
       row = r;
       long = ap length r ∙ (length-append (k ∷ row_of 4 (take n fs)) (length list ∷ row_of 4 list) ∙ omega arith);
-      listed = l;
-      head = v;
+      listed = own;
+      counted = l;
     }

@@ -4,3 +4,4 @@ pub mod Decoding
 pub mod Encoding
 pub mod Back
 pub mod Misfit
+pub mod Places

@@ -1,7 +1,8 @@
 -- Rows written over: one behind the other is both at once.
-use Rattle.std.proofs.Common.{◌≡◌, ℕ, suc, ◌+◌, ◌*◌, ◌/◌, ◌%◌, ◌<◌, ◌≤◌, List, [], ◌∷◌, ◌++◌, length, get_or, take, drop, set, sym, ap, ◌∙◌, append_assoc, mul-le-mul_left, arith, length-append}
+use Rattle.std.proofs.Common.{◌≡◌, ℕ, suc, ◌+◌, ◌*◌, ◌/◌, ◌%◌, ◌<◌, ◌≤◌, List, [], ◌∷◌, ◌++◌, length, get_or, take, drop, map, set, sym, ap, ◌∙◌, append_assoc, mul-le-mul_left, arith, length-append}
 use borrow.Rule.Slice.PartMut.{put_mid}
-use Rattle.std.proofs.lemmas.List.{drop-drop, take-append-drop, length-take-le, take_at, drop_at, set_split, take_more}
+use native.Mathlib.Nat.{div-div-eq-div-mul}
+use Rattle.std.proofs.lemmas.List.{length-map, map-id, drop-drop, take-append-drop, length-take-le, take_at, drop_at, set_split, map_more}
 use Rattle.wire.specs.Bytes.{bytes_of, row_of, over}
 use Rattle.wire.proofs.Fields.{bytes_length, row_length, row_push}
 
@@ -47,18 +48,36 @@ four_bytes n =
     let b : n / 16777216 % 256 ≡ n / 256 / 256 / 256 % 256 = omega arith in
     rw (a, b)
 
+-- numbers of the code are their own values
+pub same_row : (width : ℕ) (ns : List ℕ) → row_of width (map (λ n. n) ns) ≡ row_of width ns
+same_row width ns = ap (row_of width) (map-id ns)
+
 -- from the front on it is the new row and what stood behind
 pub over_front : (new old : List ℕ) → over 0 new old ≡ new ++ drop (length new) old
 unfolding over
 over_front new old = ap (λ n. new ++ drop n old) (native.Mathlib.Nat.zero-add (length new))
 
--- one more number of a row, whatever its width: the step of every loop that writes one
-pub row_more : (width at place k i : ℕ) (ns old out new : List ℕ) → i < length ns → at + width * length ns ≤ length old → new ≡ bytes_of width (get_or ns i 0) → out ≡ over at (row_of width (take i ns)) old →
-    k ≡ width → place ≡ at + width * i → put_mid place k out new ≡ over at (row_of width (take (i + 1) ns)) old
-row_more width at place k i ns old out new lt fits b o w p =
-    let n : ℕ = get_or ns i 0 in
-    let t : length (take i ns) ≡ i = length-take-le i ns (omega arith) in
-    let long : length (row_of width (take i ns)) ≡ width * i = row_length width (take i ns) ∙ ap (λ m. width * m) t in
-    let below : width * i ≤ width * length ns = mul-le-mul_left width (omega arith) in
-    then_more at place (row_of width (take i ns)) (bytes_of width n) old out _ (omega arith) o (over_part place k out new (ap length b ∙ (bytes_length width n ∙ sym w)) ∙ ap (λ x. over place x out) b) (omega arith)
-    ∙ ap (λ x. over at x old) (sym (row_push width (take i ns) n) ∙ ap (row_of width) (sym (take_more ns i 0 lt)))
+-- one more of the numbers of a row, whatever their width: the step of the loop that writes them
+pub row_more : {X : Type 0} (value : X → ℕ) (width at place k i : ℕ) (xs : List X) (x : X) (old out new : List ℕ) → i < length xs → at + width * length xs ≤ length old → x ≡ get_or xs i x → new ≡ bytes_of width (value x) →
+    out ≡ over at (row_of width (map value (take i xs))) old → k ≡ width → place ≡ at + width * i → put_mid place k out new ≡ over at (row_of width (map value (take (i + 1) xs))) old
+row_more value width at place k i xs x old out new lt fits e b o w p =
+    let ns : List ℕ = map value (take i xs) in
+    let t : length ns ≡ i = length-map (take i xs) value ∙ length-take-le i xs (omega arith) in
+    let long : length (row_of width ns) ≡ width * i = row_length width ns ∙ ap (λ m. width * m) t in
+    let below : width * i ≤ width * length xs = mul-le-mul_left width (omega arith) in
+    let more : map value (take (i + 1) xs) ≡ ns ++ (value x ∷ []) = map_more value xs i x lt ∙ ap (λ y. ns ++ (value y ∷ [])) (sym e) in
+    then_more at place (row_of width ns) (bytes_of width (value x)) old out _ (omega arith) o (over_part place k out new (ap length b ∙ (bytes_length width (value x) ∙ sym w)) ∙ ap (λ y. over place y out) b) (omega arith)
+    ∙ ap (λ y. over at y old) (sym (row_push width ns (value x)) ∙ ap (row_of width) (sym more))
+
+-- and the eight bytes of a longer one
+pub eight_bytes : (n : ℕ) →
+    (n % 256) ∷ ((n / 256 % 256) ∷ ((n / 65536 % 256) ∷ ((n / 16777216 % 256) ∷ ((n / 4294967296 % 256) ∷ ((n / 1099511627776 % 256) ∷ ((n / 281474976710656 % 256) ∷ ((n / 72057594037927936 % 256) ∷ []))))))) ≡ bytes_of 8 n
+unfolding bytes_of
+eight_bytes n =
+    let a : n / 256 / 256 ≡ n / 65536 = div-div-eq-div-mul n 256 256 in
+    let b : n / 256 / 256 / 256 ≡ n / 16777216 = ap (λ m. m / 256) a ∙ div-div-eq-div-mul n 65536 256 in
+    let c : n / 256 / 256 / 256 / 256 ≡ n / 4294967296 = ap (λ m. m / 256) b ∙ div-div-eq-div-mul n 16777216 256 in
+    let d : n / 256 / 256 / 256 / 256 / 256 ≡ n / 1099511627776 = ap (λ m. m / 256) c ∙ div-div-eq-div-mul n 4294967296 256 in
+    let e : n / 256 / 256 / 256 / 256 / 256 / 256 ≡ n / 281474976710656 = ap (λ m. m / 256) d ∙ div-div-eq-div-mul n 1099511627776 256 in
+    let f : n / 256 / 256 / 256 / 256 / 256 / 256 / 256 ≡ n / 72057594037927936 = ap (λ m. m / 256) e ∙ div-div-eq-div-mul n 281474976710656 256 in
+    cc

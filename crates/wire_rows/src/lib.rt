@@ -19,29 +19,20 @@ mod tests {
         let Ok(read) = decode(row) else {
             return false;
         };
-        if read.call != call || leg_count(read.list) != list.len() {
-            return false;
-        }
-        for (i, number) in list.iter().enumerate() {
-            let Some(leg) = leg_at(read.list, i) else {
-                return false;
-            };
-            if leg != *number {
-                return false;
-            }
-        }
-        true
+        read.call == call
+            && leg_count(read.list) == list.len()
+            && list
+                .iter()
+                .enumerate()
+                .all(|(i, number)| leg_at(read.list, i) == Some(*number))
     }
 
     // Do the bytes begin with this row, and are the others blank.
     fn holds(bytes: &[u8], row: &[u8]) -> bool {
-        for (i, byte) in bytes.iter().enumerate() {
-            let expected = if i < row.len() { row[i] } else { BLANK };
-            if *byte != expected {
-                return false;
-            }
-        }
-        true
+        let Some(rest) = bytes.strip_prefix(row) else {
+            return false;
+        };
+        rest.iter().all(|byte| *byte == BLANK)
     }
 
     // Is this call, with this list, written as this row, and nothing behind it.
@@ -60,20 +51,12 @@ mod tests {
 
     // Is this row refused at this place.
     fn refused_at(row: &[u8], place: usize) -> bool {
-        match decode(row) {
-            Ok(_) => false,
-            Err(n) => n == place,
-        }
+        decode(row).is_err_and(|n| n == place)
     }
 
     // Is every row that is shorter than this one refused at its own length.
     fn cut_short(row: &[u8]) -> bool {
-        for n in 0..row.len() {
-            if !refused_at(&row[0..n], n) {
-                return false;
-            }
-        }
-        true
+        (0..row.len()).all(|n| refused_at(&row[..n], n))
     }
 
     // Is this row this call both ways, and no call if it is cut short anywhere.
@@ -159,9 +142,12 @@ mod tests {
         let mut legs = [0; 256];
         row[0] = 8;
         row[1] = 1;
-        for i in 0..255u8 {
-            row[6 + 4 * i as usize] = i;
-            legs[i as usize] = u32::from(i);
+        let fields = row[6..].chunks_exact_mut(4);
+        for (i, (leg, field)) in (0..255u8).zip(legs.iter_mut().zip(fields)) {
+            *leg = u32::from(i);
+            if let Some(low) = field.first_mut() {
+                *low = i;
+            }
         }
         for count in [0, 1, 8, 26, 255u8] {
             row[5] = count;
@@ -238,9 +224,12 @@ mod tests {
         let mut list = [0; 27];
         row[0] = 4;
         row[1] = 26;
-        for i in 0..26u8 {
-            row[2 + 8 * i as usize] = i;
-            list[i as usize] = u64::from(i);
+        let fields = row[2..].chunks_exact_mut(8);
+        for (i, (count, field)) in (0..26u8).zip(list.iter_mut().zip(fields)) {
+            *count = u64::from(i);
+            if let Some(low) = field.first_mut() {
+                *low = i;
+            }
         }
         assert!(rt; answers_as(Answer::Sold, &list[0..26], &row));
         let mut out = [BLANK; 256];

@@ -1,25 +1,37 @@
 -- Each turn reads one more number of those that are left.
-use Rattle.std.proofs.Common.{◌≡◌, take, sym, ap, ◌∙◌, arith, length-set}
-use Rattle.std.proofs.lemmas.List.{take_more_set}
+use Rattle.std.proofs.Common.{◌≡◌, ℕ, ◌-◌, List, [], ◌∷◌, length, min, take, drop, sym, ap, ◌∙◌, arith}
+use Rattle.std.proofs.lemmas.List.{take_at, take_all, take_more_set, length-take}
 use Rattle.std.proofs.lemmas.Result.{err_from_is_err_and}
 use Rattle.scan.specs.Words.{numbers_in}
-use Rattle.scan.proofs.Readings.{numbers_more, numbers_unfit, numbers_done}
+use Rattle.scan.proofs.Readings.{numbers_next, numbers_done}
 use Rattle.scan.proofs.read_numbers.Goals as goal
 
+-- the places of the numbers, before any is there
+five : List ℕ
+five = 0 ∷ 0 ∷ 0 ∷ 0 ∷ 0 ∷ []
+
+-- as many of them are filled as were asked for, but at most five
+places : (n count : ℕ) → n ≡ min count 5 → length (take n five) ≡ min count 5
+unfolding five
+places n count e = omega (arith, length-take n five)
+
 pub returns-in_err-next : goal.returns-in_err-next
+unfolding five
 returns-in_err-next c =
     let p = err_from_is_err_and c.from_residual.result c.from_residual.ensures.1 in
-    let e = numbers_unfit c.min-most.result c.loop-i.i _ (take c.loop-i.i c.loop-i.values) c.loop-i.rest.now c.loop-i-test.true (sym c.in_err-next.ensures) in
-    rw (p.1, p.2) (sym e ∙ sym c.loop-i.invariant.1 ∙ ap (λ n. numbers_in n c.args.line.now) c.min-most.ensures)
+    let next = numbers_next _ c.loop-value.value-index (take c.loop-value.value-index c.loop-value.value-items) c.loop-value.rest.now _ c.loop-value-test.true c.in_err-next.ensures in
+    rw (p.1, p.2) (sym (c.loop-value.invariant ∙ next) ∙ ap (λ n. numbers_in n c.args.line.now) (places _ _ c.min-most.ensures))
 
-pub loop-i-preserved : goal.loop-i-preserved
-loop-i-preserved c =
-    let e = numbers_more c.min-most.result c.loop-i.i _ (take c.loop-i.i c.loop-i.values) c.loop-i.rest.now _ c.loop-i-test.true (sym c.in_ok-next.ensures) in
-    let t = take_more_set c.loop-i.values c.loop-i.i c.in_ok-next.next.value (omega (arith, c.loop-i.invariant.0)) in
-    (omega (arith, length-set c.loop-i.values c.loop-i.i c.in_ok-next.next.value, c.loop-i.invariant.0), rw t (c.loop-i.invariant.1 ∙ e))
+pub loop-value-preserved : goal.loop-value-preserved
+loop-value-preserved c =
+    let next = numbers_next _ c.loop-value.value-index (take c.loop-value.value-index c.loop-value.value-items) c.loop-value.rest.now _ c.loop-value-test.true c.in_ok-next.ensures in
+    rw (take_more_set c.loop-value.value-items c.loop-value.value-index c.in_ok-next.next.value (omega arith)) (c.loop-value.invariant ∙ next)
 
 pub returns : goal.returns
+unfolding five
 returns c =
-    let e = numbers_done c.min-most.result c.loop-i.i (take c.loop-i.i c.loop-i.values) c.loop-i.rest.now c.loop-i-test.false in
-    let n : c.loop-i.i ≡ c.min-most.result = omega arith in
-    cc
+    let most = places _ _ c.min-most.ensures in
+    let none_left : length (take c.min-most.result five) - c.loop-value.value-index ≡ 0 = omega arith in
+    let whole = take_at c.loop-value.value-items (drop c.min-most.result five) (min c.args.count 5) (omega arith) in
+    let all = take_all c.loop-value.value-index c.loop-value.value-items (omega arith) in
+    rw whole (sym (rw (all, none_left, numbers_done c.loop-value.value-items c.loop-value.rest.now, most) at c.loop-value.invariant))

@@ -1,8 +1,9 @@
 -- By the first word: unknown, or the call's.
 use Rattle.std.proofs.Common.{◌≡◌, length, sym, ap, ◌∙◌}
+use Rattle.protocol.specs.Verbs.{verb_number}
 use Rattle.scan.specs.Words.{bad, word_in}
 use Rattle.text.specs.CallLines.{place_among, verbs}
-use Rattle.text.proofs.Verbs.{unknown_word, known_word}
+use Rattle.text.proofs.Verbs.{number_known, unknown_word, known_word}
 use Rattle.text.proofs.find_call.Goals as goal
 
 pub returns-in_default : goal.returns-in_default
@@ -12,5 +13,5 @@ returns-in_default c =
 
 pub returns : goal.returns
 returns c =
-    let e : place_among (word_in c.args.line.now) verbs ≡ c.in-Some.number = rw c.read_word-first.ensures.word at c.in-Some.ensures.1 in
-    rw (known_word c.args.line.now c.in-Some.number c.in-Some.ensures.0 e) (rw c.read_word-first.ensures.rest at c.read_rest.ensures)
+    let e : place_among (word_in c.args.line.now) verbs ≡ verb_number c.in-Some.verb = rw c.read_word-first.ensures.word at c.in-Some.ensures in
+    rw (known_word c.args.line.now (verb_number c.in-Some.verb) (number_known c.in-Some.verb) e) (rw c.read_word-first.ensures.rest at c.read_rest.ensures)

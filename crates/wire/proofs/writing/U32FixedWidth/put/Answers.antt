@@ -1,0 +1,7 @@
+-- The four bytes, as they are written.
+use Rattle.std.proofs.Common.{◌∙◌}
+use Rattle.wire.proofs.Written.{four_bytes}
+use Rattle.wire.proofs.writing.U32FixedWidth.put.Goals as goal
+
+pub returns : goal.returns
+returns c = c.copy_from_slice.ensures.after ∙ (c.to_le_bytes.ensures ∙ four_bytes _)
