@@ -64,7 +64,7 @@ serve_newest-requires c =
     let h = house c.args.m.now in
     let new = asked c.args.class c.args.seats c.args.legs.now in
     let pushed : house c.push_booking.new.self ≡ plus_booking h new = c.push_booking.ensures.house ∙ ap (plus_booking h) (ap booking_means c.new.ensures ∙ booking_of_means c.args.class c.args.seats c.args.legs.now) in
-    record { sound = c.push_booking.new.self.sound; newest = subst Newcomer (sym pushed) (newcomer h new c.requires.idle refl) }
+    record { newest = subst Newcomer (sym pushed) (newcomer h new c.requires.idle refl) }
 
 pub returns-then-serve_newest : goal.returns-then-serve_newest
 returns-then-serve_newest c =
@@ -80,7 +80,7 @@ returns-then-serve_newest c =
           (omega (arith, c.in-Some-next_number.ensures.1, c.booking_count.ensures, ap (λ (l : Limits). l.bookings) c.limits.ensures)) x u c.in-Some-next_number.number 1
           (λ d. c.clock-2.ensures d + (c.limits-2.ensures d).hold) (omega (arith, c.in-Some-next_number.ensures.0, c.booking_count.ensures)) (e.house ∙ ap (λ v. all_served v u) pushed)
           (ap (λ v. (the_booking x (last v)).stands) (sym pushed) ∙ e.stands);
-      sound = e.sound;
+      sound = c.serve_newest.new.memory.sound;
       lent = lent_both c.args.m.now c.push_booking.new.self c.serve_newest.new.memory c.push_booking.ensures.lent e.lent;
     }
 
@@ -98,6 +98,6 @@ returns-else-serve_newest c =
           (omega (arith, c.in-Some-next_number.ensures.1, c.booking_count.ensures, ap (λ (l : Limits). l.bookings) c.limits.ensures)) x u c.in-Some-next_number.number 0
           (λ d. c.clock-2.ensures d + (c.limits-2.ensures d).hold) (omega (arith, c.in-Some-next_number.ensures.0, c.booking_count.ensures)) (e.house ∙ ap (λ v. all_served v u) pushed)
           (ap (λ v. (the_booking x (last v)).stands) (sym pushed) ∙ e.stands);
-      sound = e.sound;
+      sound = c.serve_newest.new.memory.sound;
       lent = lent_both c.args.m.now c.push_booking.new.self c.serve_newest.new.memory c.push_booking.ensures.lent e.lent;
     }
