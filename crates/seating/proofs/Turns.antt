@@ -9,7 +9,7 @@ use Rattle.meaning.proofs.Serve as serving
 use Rattle.meaning.proofs.Serve.{at, waiting, waiting_held, waiting_le}
 use Rattle.meaning.proofs.Waits.{could_from}
 use Rattle.store.specs.declared.Memory.{Memory}
-use Rattle.store.specs.Whole.{house, Sound, Lent, set_booking}
+use Rattle.store.specs.Whole.{house, Lent, set_booking}
 use Rattle.store.proofs.Lents.{lent_none, lent_both}
 use Rattle.seating.specs.Serving.{NoneBelow, NoneCould, OneServing, First, Found, all_served, held}
 
@@ -53,22 +53,20 @@ fewer_wait h k u f = sym (waiting_held h.legs u h.bookings k f.there (eqb-true _
 
 -- memory m on the way of being served, at n: what is left to serve is the same
 pub record OnTheWay (m n : Memory) (u : ℕ) : Type 0 where
-  pub sound : Sound n
   pub lent : Lent m n
   pub same : house n ≡ with_bookings (house m) (house n).bookings
   pub left : (x : ℕ) → serve (x + waiting (house m).bookings) (house m).legs (house m).bookings u ≡ serve (x + waiting (house n).bookings) (house n).legs (house n).bookings u
 
-pub way_begins : (m : Memory) (u : ℕ) → Sound m → OnTheWay m m u
-way_begins m u s = record { sound = s; lent = lent_none m; same = refl; left = λ x. refl }
+pub way_begins : (m : Memory) (u : ℕ) → OnTheWay m m u
+way_begins m u = record { lent = lent_none m; same = refl; left = λ x. refl }
 
-pub way_on : (m n p : Memory) (u k : ℕ) → OnTheWay m n u → First (house n) k → house p ≡ set_booking (house n) k (stand (the_booking (house n) k) 1 u) → Sound p → Lent n p → OnTheWay m p u
-way_on m n p u k w f e s l =
+pub way_on : (m n p : Memory) (u k : ℕ) → OnTheWay m n u → First (house n) k → house p ≡ set_booking (house n) k (stand (the_booking (house n) k) 1 u) → Lent n p → OnTheWay m p u
+way_on m n p u k w f e l =
     let left : (x : ℕ) → serve (x + waiting (house n).bookings) (house n).legs (house n).bookings u ≡ serve (x + waiting (house p).bookings) (house p).legs (house p).bookings u =
     λ x. let y : x + waiting (house n).bookings ≡ suc (x + waiting (held (house n) u k)) = omega (arith, fewer_wait (house n) k u f) in
     ap (λ (v : ℕ). serve v (house n).legs (house n).bookings u) y ∙ first_served (house n) (x + waiting (held (house n) u k)) u k f
     ∙ ap (λ (g : House). serve (x + waiting g.bookings) g.legs g.bookings u) (sym e) in
     record {
-      sound = s;
       lent = lent_both m n p w.lent l;
       same = e ∙ ap (λ (g : House). with_bookings g (held (house n) u k)) w.same ∙ ap (λ (v : List Booking). with_bookings (house m) v) (sym (ap (λ (g : House). g.bookings) e));
       left = λ x. w.left x ∙ left x;

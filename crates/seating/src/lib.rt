@@ -14,7 +14,7 @@ ghost use Rattle.meaning.specs.Lines.{pick};
 ghost use Rattle.meaning.specs.House.{room};
 ghost use Rattle.meaning.specs.Calls.{most, the_booking};
 ghost use Rattle.seating.specs.Serving.{Found, Newcomer, NoneCould, OneServing, all_served, could, last, newest_held};
-ghost use Rattle.store.specs.Whole.{Lent, Sound, house};
+ghost use Rattle.store.specs.Whole.{Lent, house};
 
 use records::Leg;
 use store::Memory;
@@ -38,7 +38,6 @@ fn classes_to(g: &Leg, class: u32) -> usize
 
 // Is there room for so many seats in a class on leg i?
 pub fn has_room_on(memory: &Memory, i: usize, class: u32, seats: u32) -> bool
-    requires sound { Sound memory.now }
     requires there { i < length (house memory.now).legs }
     ensures { result ≡ room (house memory.now).legs (house memory.now).bookings (i ∷ []) class seats }
 {
@@ -53,7 +52,6 @@ pub fn has_room_on(memory: &Memory, i: usize, class: u32, seats: u32) -> bool
 
 // Is there room for so many seats in a class on each of these legs?
 pub fn has_room(memory: &Memory, legs: &[u32], class: u32, seats: u32) -> bool
-    requires sound { Sound memory.now }
     requires there { (x : ℕ) → x < length legs.now → slice_index legs.now x < length (house memory.now).legs }
     ensures { result ≡ room (house memory.now).legs (house memory.now).bookings legs.now class seats }
 {
@@ -68,7 +66,6 @@ pub fn has_room(memory: &Memory, legs: &[u32], class: u32, seats: u32) -> bool
 // How many seats are free on leg i in a class, up to 1,000: the least that any limit from the dearest
 // class to this one leaves. Where more is taken than a limit that was lowered, none is.
 pub fn free_seats(memory: &Memory, i: usize, class: u32) -> u32
-    requires sound { Sound memory.now }
     requires there { i < length (house memory.now).legs }
     ensures { result ≡ most 1000 (house memory.now).legs (house memory.now).bookings i class }
 {
@@ -84,7 +81,6 @@ pub fn free_seats(memory: &Memory, i: usize, class: u32) -> u32
 // A limit without room for a booking, on any of its legs, in any of its classes, leaves for the next
 // booking.
 pub fn first_fit(memory: &Memory) -> Option<usize>
-    requires { Sound memory.now }
     ensures first { Found (house memory.now) result }
     ensures serves { OneServing (house memory.now) result }
 {
@@ -110,10 +106,8 @@ pub fn first_fit(memory: &Memory) -> Option<usize>
 // Whoever waits is served, until there is room for none that waits; each who is served is held until
 // this tick.
 pub fn serve(memory: &mut Memory, until: u32)
-    requires { Sound memory.old }
     ensures house { house memory.new ≡ all_served (house memory.old) until }
     ensures idle { NoneCould (house memory.new) }
-    ensures sound { Sound memory.new }
     ensures lent { Lent memory.old memory.new }
 {
     while let Some(k) = first_fit(memory) {
@@ -124,14 +118,12 @@ pub fn serve(memory: &mut Memory, until: u32)
 // The same where only the booking that came last can be served, since nobody waited for what was free
 // before: it is held if there is room for it, and nothing else changes. Tells whether it is.
 pub fn serve_newest(memory: &mut Memory, until: u32) -> bool
-    requires sound { Sound memory.old }
     requires newest { Newcomer (house memory.old) }
     ensures house { house memory.new ≡ all_served (house memory.old) until }
     ensures idle { NoneCould (house memory.new) }
     ensures room { result ≡ could (house memory.old) (last (house memory.old)) }
     ensures stands { (the_booking (house memory.new) (last (house memory.old))).stands ≡ pick result 1 0 }
     ensures only { house memory.new ≡ newest_held (house memory.old) until result }
-    ensures sound { Sound memory.new }
     ensures lent { Lent memory.old memory.new }
 {
     let k = memory.booking_count() - 1;

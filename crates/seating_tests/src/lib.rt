@@ -7,7 +7,7 @@ ghost use Rattle.records.specs.Words.{leg_of};
 ghost use Rattle.seating.specs.Serving.{NoneCould};
 ghost use Rattle.seating_tests.specs.Bookable.{Bookable};
 ghost use Rattle.store.specs.Range.{FineLeg};
-ghost use Rattle.store.specs.Whole.{Sound, house};
+ghost use Rattle.store.specs.Whole.{house};
 
 #[cfg(test)]
 mod tests {
@@ -35,10 +35,8 @@ mod tests {
         leaves: u32,
         limits: &[u32],
     ) -> Result<(), Fail>
-        requires sound { Sound m.old }
         requires range { from + leaves < 65535 }
         requires fine { FineLeg (leg_of from (from + 1) leaves (leaves + 50) limits.now) }
-        ensures { Sound m.new }
     {
         assert!(rt; m.leg_count() < m.limits().legs as usize);
         m.push_leg(&Leg::new(from, from + 1, leaves, leaves + 50, limits));
@@ -47,8 +45,6 @@ mod tests {
 
     // Leg 0 with limits 5, 3 and 2, leg 1 with limits 5 and 4, leg 2 with 1,000 and 1,000.
     fn fill(rt: &impl Abort, m: &mut Memory) -> Result<(), Fail>
-        requires { Sound m.old }
-        ensures { Sound m.new }
     {
         add_leg(rt, m, 1, 100, &[5, 3, 2])?;
         add_leg(rt, m, 2, 200, &[5, 4])?;
@@ -69,8 +65,6 @@ mod tests {
 
     // A booking of leg i that waits; nobody is served yet.
     fn wait_for(rt: &impl Abort, m: &mut Memory, class: u32, seats: u32, i: u32) -> Result<(), Fail>
-        requires { Sound m.old }
-        ensures { Sound m.new }
     {
         may_book(rt, m, class, seats, i)?;
         m.push_booking(&Booking::new(class, seats, &[i]));
@@ -79,9 +73,7 @@ mod tests {
 
     // A booking of leg i, which is served if it can be. Tells whether it is held.
     fn book(rt: &impl Abort, m: &mut Memory, class: u32, seats: u32, i: u32) -> Result<bool, Fail>
-        requires sound { Sound m.old }
         requires idle { NoneCould (house m.old) }
-        ensures sound { Sound m.new }
         ensures idle { NoneCould (house m.new) }
     {
         may_book(rt, m, class, seats, i)?;
@@ -91,9 +83,7 @@ mod tests {
 
     // The same for a booking of legs 0 and 1.
     fn book_both(rt: &impl Abort, m: &mut Memory, class: u32, seats: u32) -> Result<bool, Fail>
-        requires sound { Sound m.old }
         requires idle { NoneCould (house m.old) }
-        ensures sound { Sound m.new }
         ensures idle { NoneCould (house m.new) }
     {
         may_book(rt, m, class, seats, 1)?;
@@ -103,8 +93,6 @@ mod tests {
 
     // Booking k is paid, or gone; whoever waits is not served yet.
     fn stand(rt: &impl Abort, m: &mut Memory, k: usize, stands: u32)
-        requires { Sound m.old }
-        ensures { Sound m.new }
     {
         assert!(rt; k < m.booking_count());
         assert!(rt; stands <= 3);
@@ -113,10 +101,8 @@ mod tests {
 
     // Leg i has these limits from now on, as many as it had.
     fn limit(rt: &impl Abort, m: &mut Memory, i: usize, limits: &[u32]) -> Result<(), Fail>
-        requires sound { Sound m.old }
         requires falling { falling limits.now ≡ true }
         requires small { all_to 1000 limits.now ≡ true }
-        ensures { Sound m.new }
     {
         assert!(rt; i < m.leg_count());
         assert!(rt; m.leg(i).classes as usize == limits.len());
@@ -126,15 +112,12 @@ mod tests {
 
     // Leg 0 has limits of 1 from now on.
     fn lower(rt: &impl Abort, m: &mut Memory) -> Result<(), Fail>
-        requires { Sound m.old }
-        ensures { Sound m.new }
     {
         limit(rt, m, 0, &[1, 1, 1])
     }
 
     // Room for so many seats in a class on leg i is just this.
     fn room_is(rt: &impl Abort, m: &Memory, i: u32, class: u32, seats: u32, expected: bool)
-        requires { Sound m.now }
     {
         assert!(rt; (i as usize) < m.leg_count());
         assert_eq!(rt; has_room(m, &[i], class, seats), expected);
@@ -142,7 +125,6 @@ mod tests {
 
     // What is free on leg i, from class 0 on, is just this.
     fn free_is(rt: &impl Abort, m: &Memory, i: usize, expected: &[u32])
-        requires { Sound m.now }
     {
         assert!(rt; i < m.leg_count());
         assert!(rt; expected.len() <= 26);
@@ -153,7 +135,6 @@ mod tests {
 
     // How the bookings stand, from number 0 on, is just this.
     fn stand_so(rt: &impl Abort, m: &Memory, expected: &[u32])
-        requires { Sound m.now }
     {
         assert!(rt; m.booking_count() == expected.len());
         for k in 0..expected.len() {
@@ -164,8 +145,6 @@ mod tests {
     // Two seats of leg 0 in class 1 are held: of limits 5, 3 and 2 are left 3, 1 and 2, and in class 2
     // no more than class 1 leaves.
     fn the_first_bookings(rt: &impl Abort, m: &mut Memory) -> Result<(), Fail>
-        requires { Sound m.old }
-        ensures { Sound m.new }
     {
         serve(m, 20);
         assert!(rt; book_both(rt, m, 1, 2)?);
@@ -181,7 +160,6 @@ mod tests {
 
     // Booking 0 is gone, so booking 1 is held, until tick 40.
     fn one_is_gone(rt: &impl Abort, m: &mut Memory)
-        requires { Sound m.old }
     {
         assert_eq!(rt; first_fit(m), None);
         stand(rt, m, 0, 3);
@@ -269,8 +247,6 @@ mod tests {
     // Of 4, 3 and 1 seats that wait for 5, in this order, the first is held, then the third, for whom
     // there is still room; 5 seats in class 1 of leg 1, whose limit is 4, wait on.
     fn first_of_four(rt: &impl Abort, m: &mut Memory) -> Result<(), Fail>
-        requires { Sound m.old }
-        ensures { Sound m.new }
     {
         wait_for(rt, m, 0, 4, 0)?;
         wait_for(rt, m, 0, 3, 0)?;

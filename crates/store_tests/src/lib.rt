@@ -6,7 +6,6 @@ ghost use Rattle.std.specs.Prelude.{◌≡◌, ◌+◌, ◌*◌, ◌<◌, ◌≤
 ghost use Rattle.meaning.specs.Calls.{all_to, falling};
 ghost use Rattle.records.specs.Words.{booking_of, leg_in, leg_of};
 ghost use Rattle.store.specs.Range.{FineBooking, FineFare, FineLeg};
-ghost use Rattle.store.specs.Whole.{Sound};
 
 use records::{
     Booking, Fare, Leg, load_booking, load_fare, load_leg, store_booking, store_fare, store_leg,
@@ -72,10 +71,8 @@ mod tests {
         from: u32,
         limits: &[u32],
     ) -> Result<(), Fail>
-        requires sound { Sound m.old }
         requires place { from < 65535 }
         requires fine { FineLeg (leg_of from (from + 1) leaves arrives limits.now) }
-        ensures { Sound m.new }
     {
         assert!(rt; m.leg_count() < m.limits().legs as usize);
         m.push_leg(&Leg::new(from, from + 1, leaves, arrives, limits));
@@ -90,9 +87,7 @@ mod tests {
         seats: u32,
         legs: &[u32],
     ) -> Result<(), Fail>
-        requires sound { Sound m.old }
         requires fine { FineBooking 2 (booking_of class seats legs.now) }
-        ensures { Sound m.new }
     {
         assert!(rt; m.leg_count() == 2);
         assert!(rt; m.booking_count() < m.limits().bookings as usize);
@@ -102,8 +97,6 @@ mod tests {
 
     // Booking k stands otherwise.
     fn stand(rt: &impl Abort, m: &mut Memory, k: usize, stands: u32, until: u32) -> Result<(), Fail>
-        requires { Sound m.old }
-        ensures { Sound m.new }
     {
         assert!(rt; k < m.booking_count());
         assert!(rt; stands <= 3);
@@ -113,7 +106,6 @@ mod tests {
 
     // What is taken on leg i, from class 0 on, is just this.
     fn taken_is(rt: &impl Abort, m: &Memory, i: usize, expected: &[u32])
-        requires { Sound m.now }
     {
         assert!(rt; i < m.leg_count());
         assert!(rt; expected.len() <= 26);
@@ -125,8 +117,6 @@ mod tests {
     // Leg 0 from 1 to 2 with limits 5, 3 and 2, leg 1 from 2 to 3 with limits 5 and 4; and bookings
     // that wait: two seats in class 1 on both legs, two in class 1 on leg 0, three in class 0 on both.
     fn fill(rt: &impl Abort, m: &mut Memory) -> Result<(), Fail>
-        requires { Sound m.old }
-        ensures { Sound m.new }
     {
         add_leg(rt, m, 100, 200, 1, &[5, 3, 2])?;
         add_leg(rt, m, 230, 300, 2, &[5, 4])?;
@@ -137,9 +127,7 @@ mod tests {
 
     // A fare whose numbers are in range, where there may be one more.
     fn add_fare(rt: &impl Abort, m: &mut Memory, f: &Fare)
-        requires sound { Sound m.old }
         requires fine { FineFare f.now }
-        ensures { Sound m.new }
     {
         assert!(rt; m.fare_count() < m.limits().fares as usize);
         m.push_fare(f);
@@ -147,7 +135,6 @@ mod tests {
 
     // Leg i has just these limits.
     fn limits_are(rt: &impl Abort, m: &Memory, i: usize, expected: &[u32]) -> Result<(), Fail>
-        requires { Sound m.now }
     {
         assert!(rt; i < m.leg_count());
         assert!(rt; expected.len() <= 26);
@@ -161,10 +148,8 @@ mod tests {
 
     // Leg i has these limits from now on, as many as it had.
     fn limit(rt: &impl Abort, m: &mut Memory, i: usize, limits: &[u32]) -> Result<(), Fail>
-        requires sound { Sound m.old }
         requires falling { falling limits.now ≡ true }
         requires small { all_to 1000 limits.now ≡ true }
-        ensures { Sound m.new }
     {
         assert!(rt; i < m.leg_count());
         assert!(rt; m.leg(i).classes as usize == limits.len());
@@ -174,8 +159,6 @@ mod tests {
 
     // Booking k is paid.
     fn pay(rt: &impl Abort, m: &mut Memory, k: usize, sum: u64) -> Result<(), Fail>
-        requires { Sound m.old }
-        ensures { Sound m.new }
     {
         assert!(rt; k < m.booking_count());
         m.settle(k, 2, 0, sum);
@@ -191,7 +174,6 @@ mod tests {
         until: u32,
         paid: u64,
     ) -> Result<(), Fail>
-        requires { Sound m.now }
     {
         assert!(rt; k < m.booking_count());
         let b = m.booking(k);
@@ -203,7 +185,6 @@ mod tests {
 
     // What is taken on both legs.
     fn both_are(rt: &impl Abort, m: &Memory, first: &[u32], second: &[u32]) -> Result<(), Fail>
-        requires { Sound m.now }
     {
         taken_is(rt, m, 0, first);
         taken_is(rt, m, 1, second);
@@ -236,7 +217,6 @@ mod tests {
     // The worked example from its first booking to its last. Booking 2, in class 0, counts in class 0
     // alone; a payment leaves the counts as they are, and so do other limits.
     fn go_on(rt: &impl Abort, m: &mut Memory) -> Result<(), Fail>
-        requires { Sound m.old }
     {
         stand(rt, m, 0, 1, 20)?;
         stand(rt, m, 2, 1, 20)?;

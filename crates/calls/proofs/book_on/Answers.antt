@@ -70,7 +70,7 @@ serve_newest-requires c =
     let h = house c.args.m.now in
     let new = asked c.args.seats.class c.args.seats.count c.args.legs.now in
     let pushed : house c.push_booking.new.self ≡ plus_booking h new = c.push_booking.ensures.house ∙ ap (plus_booking h) (ap booking_means c.new.ensures ∙ booking_of_means _ _ c.args.legs.now) in
-    record { sound = c.push_booking.new.self.sound; newest = subst Newcomer (sym pushed) (newcomer h new c.requires.idle refl) }
+    record { newest = subst Newcomer (sym pushed) (newcomer h new c.requires.idle refl) }
 
 pub returns : goal.returns
 unfolding turned_by

@@ -14,9 +14,9 @@ loop-k-smaller c =
 pub loop-k-preserved : goal.loop-k-preserved
 loop-k-preserved c =
     way_on c.args.memory.now c.loop-k.memory c.set_stand.new.self c.args.until c.in-Some.k c.loop-k.invariant c.in-Some.ensures.first
-    c.set_stand.ensures.house c.set_stand.new.self.sound c.set_stand.ensures.lent
+    c.set_stand.ensures.house c.set_stand.ensures.lent
 
 pub returns : goal.returns
 returns c =
     let all : house c.loop-k.memory ≡ all_served (house c.args.memory.now) c.args.until = way_ends c.args.memory.now c.loop-k.memory c.args.until c.loop-k.invariant c.in_default.ensures.first in
-    record { house = all; idle = served_idle (house c.args.memory.now) (house c.loop-k.memory) c.args.until all; sound = c.loop-k.invariant.sound; lent = c.loop-k.invariant.lent }
+    record { house = all; idle = served_idle (house c.args.memory.now) (house c.loop-k.memory) c.args.until all; lent = c.loop-k.invariant.lent }

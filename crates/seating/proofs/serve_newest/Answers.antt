@@ -16,7 +16,6 @@ has_room-fits-requires c =
     let e : n ≡ c.booking-b.result.count = omega arith in
     let l : length (take n c.booking-b.result.legs) ≡ n = length-take-le n c.booking-b.result.legs (omega (arith, c.booking-b.ensures.fine.few, c.booking-b.ensures.whole)) in
     record {
-      sound = c.requires.sound;
       there = λ x h. let q : x < n = omega arith in omega (arith, get_or-take n c.booking-b.result.legs x 0 q, c.booking-b.ensures.fine.there x (omega arith));
     }
 
@@ -30,7 +29,7 @@ returns-then-fits c =
     let only : house c.set_stand.new.self ≡ newest_held h c.args.until c.has_room-fits.result =
     then ∙ ap (λ (t : Bool). newest_held h c.args.until t) (sym c.if-fits.true) in
     let all = newest_alone h c.requires.newest c.args.until (house c.set_stand.new.self) c.has_room-fits.result (sym fits) only in
-    record { house = all.0; idle = served_idle h (house c.set_stand.new.self) c.args.until all.0; room = fits; stands = all.1; only = only; sound = c.set_stand.new.self.sound; lent = c.set_stand.ensures.lent }
+    record { house = all.0; idle = served_idle h (house c.set_stand.new.self) c.args.until all.0; room = fits; stands = all.1; only = only; lent = c.set_stand.ensures.lent }
 
 pub returns-else-fits : goal.returns-else-fits
 returns-else-fits c =
@@ -40,4 +39,4 @@ returns-else-fits c =
     let only : h ≡ newest_held h c.args.until c.has_room-fits.result =
     ap (λ (t : Bool). newest_held h c.args.until t) (sym c.if-fits.false) in
     let all = newest_alone h c.requires.newest c.args.until h c.has_room-fits.result (sym fits) only in
-    record { house = all.0; idle = served_idle h h c.args.until all.0; room = fits; stands = all.1; only = only; sound = c.requires.sound; lent = lent_none c.args.memory.now }
+    record { house = all.0; idle = served_idle h h c.args.until all.0; room = fits; stands = all.1; only = only; lent = lent_none c.args.memory.now }

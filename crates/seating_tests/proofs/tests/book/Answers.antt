@@ -11,7 +11,6 @@ use Rattle.seating_tests.proofs.tests.book.Goals as goal
 
 pub push_booking-requires : goal.push_booking-requires
 push_booking-requires g c = record {
-  sound = c.requires.sound;
   space = c.in_ok-may_book.ensures.space;
   fine =
       subst (λ (b : Booking). FineBooking (length (house c.args.m.now).legs) b) (sym c.new.ensures)
@@ -20,7 +19,6 @@ push_booking-requires g c = record {
 
 pub serve_newest-requires : goal.serve_newest-requires
 serve_newest-requires g c = record {
-  sound = c.push_booking.new.self.sound;
   newest =
       subst Newcomer (sym c.push_booking.ensures.house)
       (newcomer (house c.args.m.now) (booking_means c.new.result) c.requires.idle (ap (λ (b : Booking). b.stands) c.new.ensures));

@@ -19,10 +19,10 @@ unfolding good_fields falling all_to
 third = new_leg_fine 3 4 300 350 (1000 ∷ 1000 ∷ []) refl
 
 pub add_leg-requires : goal.add_leg-requires
-add_leg-requires g c = record { sound = c.requires; range = omega arith; fine = first }
+add_leg-requires g c = record { range = omega arith; fine = first }
 
 pub add_leg-requires-2 : goal.add_leg-requires-2
-add_leg-requires-2 g c = record { sound = c.add_leg.ensures; range = omega arith; fine = second }
+add_leg-requires-2 g c = record { range = omega arith; fine = second }
 
 pub add_leg-requires-3 : goal.add_leg-requires-3
-add_leg-requires-3 g c = record { sound = c.add_leg-2.ensures; range = omega arith; fine = third }
+add_leg-requires-3 g c = record { range = omega arith; fine = third }

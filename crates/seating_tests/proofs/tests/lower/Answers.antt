@@ -12,4 +12,4 @@ unfolding all_to
 small = refl
 
 pub limit-requires : goal.limit-requires
-limit-requires g c = record { sound = c.requires; falling = falls; small = small }
+limit-requires g c = record { falling = falls; small = small }

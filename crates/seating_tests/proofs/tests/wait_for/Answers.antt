@@ -8,7 +8,6 @@ use Rattle.seating_tests.proofs.tests.wait_for.Goals as goal
 
 pub push_booking-requires : goal.push_booking-requires
 push_booking-requires g c = record {
-  sound = c.requires;
   space = c.in_ok-may_book.ensures.space;
   fine =
       subst (λ (b : Booking). FineBooking (length (house c.args.m.now).legs) b) (sym c.new.ensures)

@@ -36,16 +36,16 @@ unfolding good_fields all_there no_twice goes two
 three = new_booking_fine two 0 3 (0 ∷ 1 ∷ []) refl refl refl
 
 pub add_leg-requires : goal.add_leg-requires
-add_leg-requires g c = record { sound = c.requires; place = omega arith; fine = first }
+add_leg-requires g c = record { place = omega arith; fine = first }
 
 pub add_leg-requires-2 : goal.add_leg-requires-2
-add_leg-requires-2 g c = record { sound = c.add_leg.ensures; place = omega arith; fine = second }
+add_leg-requires-2 g c = record { place = omega arith; fine = second }
 
 pub add_booking-requires : goal.add_booking-requires
-add_booking-requires g c = record { sound = c.add_leg-2.ensures; fine = both }
+add_booking-requires g c = record { fine = both }
 
 pub add_booking-requires-2 : goal.add_booking-requires-2
-add_booking-requires-2 g c = record { sound = c.add_booking.ensures; fine = one }
+add_booking-requires-2 g c = record { fine = one }
 
 pub add_booking-requires-3 : goal.add_booking-requires-3
-add_booking-requires-3 g c = record { sound = c.add_booking-2.ensures; fine = three }
+add_booking-requires-3 g c = record { fine = three }
