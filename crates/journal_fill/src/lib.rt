@@ -11,23 +11,13 @@ ghost use Rattle.records.specs.Means.{booking_means, fare_means, leg_means};
 ghost use Rattle.store.specs.Whole.{Sound, house};
 ghost use Rattle.journal.specs.Codes.{turn_of};
 ghost use Rattle.journal_rows.specs.Layout.{checkpoint_page, head, pages, some_bookings, some_fares, some_legs};
-ghost use Rattle.journal_rows.specs.Bytes.{booking_row, call_page, fare_row, filled, leg_row, page_bytes, row, turn_number};
+ghost use Rattle.journal_rows.specs.Bytes.{booking_row, call_page, fare_row, filled, leg_row, page_bytes, row};
+ghost use Rattle.journal_rows.specs.Kinds.{kind_number};
 
 use journal::Turn;
-use journal_rows::{BOOKINGS_A_PAGE, FARES_A_PAGE, LEGS_A_PAGE};
+use journal_rows::{BOOKINGS_A_PAGE, FARES_A_PAGE, LEGS_A_PAGE, PageKind};
 use records::{Booking, Fare, Leg};
 use store::Memory;
-
-// What the first number of a page says.
-const COMMIT: u32 = 1;
-
-const LEGS: u32 = 2;
-
-const FARES: u32 = 3;
-
-const BOOKINGS: u32 = 4;
-
-const CALL: u32 = 5;
 
 // Bytes of what every page begins with, and of a leg, a fare and a booking behind that.
 const HEAD_BYTES: usize = 8;
@@ -52,11 +42,11 @@ fn put_words(part: &mut [u8], words: &[u32])
 }
 
 // Begins a page with its kind and one number more: a turn, or how much follows. All behind them is 0.
-fn begin(page: &mut [u8; 512], kind: u32, number: u32)
-    ensures { page.new ≡ filled (row_of 4 (kind ∷ (number ∷ []))) }
+fn begin(page: &mut [u8; 512], kind: PageKind, number: u32)
+    ensures { page.new ≡ filled (row_of 4 (kind_number kind ∷ (number ∷ []))) }
 {
     *page = [0; 512];
-    put_words(&mut page[0..HEAD_BYTES], &[kind, number]);
+    put_words(&mut page[0..HEAD_BYTES], &[u32::from(kind), number]);
 }
 
 // The page of a call, by its own bytes.
@@ -64,19 +54,8 @@ pub fn fill_call(call: &[u8], page: &mut [u8; 512])
     requires { length call.now ≤ 504 }
     ensures { page.new ≡ call_page call.now }
 {
-    begin(page, CALL, call.len() as u32);
+    begin(page, PageKind::Call, call.len() as u32);
     page[HEAD_BYTES..HEAD_BYTES + call.len()].copy_from_slice(call);
-}
-
-// The number of a turn.
-fn turn_number(turn: Turn) -> u32
-    ensures { result ≡ turn_number (turn_of turn) }
-{
-    match turn {
-        Turn::One => 1,
-        Turn::Two => 2,
-        Turn::Three => 3,
-    }
 }
 
 // The commit record of the house in memory.
@@ -97,7 +76,7 @@ pub fn fill_commit(m: &Memory, turn: Turn, begins: u32, page: &mut [u8; 512])
         m.booking_count() as u32,
         begins,
     ];
-    begin(page, COMMIT, turn_number(turn));
+    begin(page, PageKind::Commit, u32::from(turn));
     put_words(&mut page[HEAD_BYTES..HEAD_BYTES + 40], &words);
 }
 
@@ -144,7 +123,7 @@ fn fill_legs(m: &Memory, first: usize, page: &mut [u8; 512])
     ensures { page.new ≡ row (some_legs (take 4 (drop first (house m.now).legs))) }
 {
     let count = LEGS_A_PAGE.min(m.leg_count() - first);
-    begin(page, LEGS, count as u32);
+    begin(page, PageKind::Legs, count as u32);
     for i in 0..count {
         let at = HEAD_BYTES + i * LEG_BYTES;
         let leg = m.leg(first + i);
@@ -159,7 +138,7 @@ fn fill_fares(m: &Memory, first: usize, page: &mut [u8; 512])
     ensures { page.new ≡ row (some_fares (take 25 (drop first (house m.now).fares))) }
 {
     let count = FARES_A_PAGE.min(m.fare_count() - first);
-    begin(page, FARES, count as u32);
+    begin(page, PageKind::Fares, count as u32);
     for i in 0..count {
         let at = HEAD_BYTES + i * FARE_BYTES;
         let fare = m.fare(first + i);
@@ -174,7 +153,7 @@ fn fill_bookings(m: &Memory, first: usize, page: &mut [u8; 512])
     ensures { page.new ≡ row (some_bookings (take 8 (drop first (house m.now).bookings))) }
 {
     let count = BOOKINGS_A_PAGE.min(m.booking_count() - first);
-    begin(page, BOOKINGS, count as u32);
+    begin(page, PageKind::Bookings, count as u32);
     for i in 0..count {
         let at = HEAD_BYTES + i * BOOKING_BYTES;
         let booking = m.booking(first + i);
