@@ -6,7 +6,8 @@ use Rattle.meaning.specs.Lines.{pick}
 use Rattle.meaning.specs.Calls.{Limits}
 use Rattle.journal.specs.Slots.{Turn, Commit}
 use Rattle.journal_rows.specs.Layout.{Head, ring_blocks}
-use Rattle.journal_rows.specs.Bytes.{of_limits, in_limits, with_turn, number_turn, numbers_commit}
+use Rattle.journal.specs.Codes.{number_turn}
+use Rattle.journal_rows.specs.Bytes.{of_limits, in_limits, with_turn, numbers_commit}
 
 module _ (l : Limits) (ns : List ℕ) where
   -- what is said beside the turn

@@ -100,7 +100,7 @@ take_padded : (n : ℕ) (xs rest : List ℕ) → length xs ≤ n → take (lengt
 take_padded n xs rest h = ap (take (length xs)) (take_at (padded n xs) rest n (length_padded n xs h)) ∙ unpadded n xs
 
 -- a leg's row
-leg_length : (g : Leg) → FineLeg g → length (leg_row g) ≡ 31
+pub leg_length : (g : Leg) → FineLeg g → length (leg_row g) ≡ 31
 leg_length g f = let e = length_padded 26 g.limits (leg_range g f).limits.few in omega arith
 
 leg_back : (g : Leg) → FineLeg g → row_leg (leg_row g) ≡ g

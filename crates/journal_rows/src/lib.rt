@@ -12,6 +12,7 @@ ghost use Rattle.journal.specs.Codes.{is_second};
 ghost use Rattle.journal_rows.specs.Layout.{IsReadBack, booking_pages, fare_pages, leg_pages, ring_blocks, slot_blocks};
 ghost use Rattle.journal_rows.specs.Bytes.{page_bytes};
 ghost use Rattle.journal_rows.specs.Kinds.{kind_number};
+ghost use Rattle.journal_rows.specs.Sorts.{SortsLawful};
 
 use journal::Slot;
 use limits::Limits;
@@ -119,4 +120,10 @@ impl Layout {
 // does nothing when called.
 pub fn rows_read_back()
     ensures { IsReadBack page_bytes }
+{}
+
+// Legs, fares and bookings are records of the same kind of sort: a page of any of them is filled and
+// read in the same way. The theorem does nothing when called.
+pub fn sorts_are_lawful()
+    ensures { SortsLawful }
 {}
