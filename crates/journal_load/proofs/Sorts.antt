@@ -1,5 +1,5 @@
 -- Records of a page, once for all sorts: they come into the house one by one, all of them are what the page says, and a page that says records in range passes each check.
-use Rattle.std.proofs.Common.{◌≡◌, ℕ, ◌+◌, ◌<◌, Bool, true, ◌&&◌, eqb, List, [], ◌∷◌, ◌++◌, length, drop, sym, refl, ap, ◌∙◌, subst, append-nil, arith}
+use Rattle.std.proofs.Common.{◌≡◌, ℕ, ◌+◌, ◌<◌, Bool, true, false, ◌&&◌, eqb, List, [], ◌∷◌, ◌++◌, length, drop, sym, refl, ap, ◌∙◌, subst, append-nil, arith}
 use mathlib.Core.Option.{some}
 use Rattle.std.proofs.lemmas.List.{length-append}
 use Rattle.std.proofs.lemmas.Bool.{and_from, and_parts, eq-eqb, eqb-true}
@@ -7,9 +7,10 @@ use Rattle.meaning.specs.House.{House}
 use Rattle.wire.specs.Bytes.{numbers_in}
 use Rattle.journal.specs.Slots.{AllOf}
 use Rattle.journal_rows.specs.Bytes.{unrow}
-use Rattle.journal_rows.specs.Sorts.{Sort, IsSort, leg_sort, fare_sort, booking_sort, record_of, kind_in, count_in, records_in, with_first}
+use Rattle.journal_rows.specs.Sorts.{Sort, IsSort, leg_sort, fare_sort, booking_sort, record_of, kind_in, count_in, records_in, with_first, NoneSo}
 use Rattle.journal_rows.proofs.Laws.{leg_laws, fare_laws, booking_laws}
 use Rattle.journal_rows.proofs.Cuts.{cut_none, cut_push, cut_length, cut_at}
+use Rattle.journal_records.proofs.Fits.{never}
 use Rattle.journal_load.specs.Pages.{Loads}
 
 module _ {X : Type 0} (s : Sort X) (w : IsSort s) (bs : List ℕ) where
@@ -59,6 +60,22 @@ module _ {X : Type 0} (s : Sort X) (w : IsSort s) (bs : List ℕ) where
   -- and what holds of all of them holds of what each record's numbers say
   pub each_passes : (P : X → Type 0) (xs : List X) → unrow bs ≡ some (s.op xs) → AllOf P xs → (k : ℕ) → k < length xs → P (s.read (record_of s.width bs k))
   each_passes P xs e a k h = cut_at s.read s.width P (count_in bs) (drop 2 (numbers_in bs)) (subst (AllOf P) (sym (w.are bs xs e).1) a) k (omega (arith, so_many xs e))
+
+  -- so a page of another kind, or of another count, is none of n records in range
+  pub its_page : (v n : ℕ) → v ≡ s.kind → true ≡ (eqb (kind_in bs) v && eqb (count_in bs) n) → test n ≡ true
+  its_page v n e z = sym (z ∙ ap (λ (u : ℕ). eqb (kind_in bs) u && eqb (count_in bs) n) e)
+
+  pub not_page : (h : House) (v n : ℕ) → v ≡ s.kind → false ≡ (eqb (kind_in bs) v && eqb (count_in bs) n) → NoneSo s bs h n
+  not_page h v n e z xs f a m q r = never (z ∙ ap (λ (u : ℕ). eqb (kind_in bs) u && eqb (count_in bs) n) e ∙ page_passes xs (ap unrow q ∙ r.unrow_row (s.op xs) f) n m)
+
+  -- nor is one with a record that can't be one, where those before it came
+  pub not_record : (h g : House) (k v n : ℕ) → g ≡ came h k → v ≡ s.width → k < n → (s.FineIn g (s.read (record_of v bs k)) → s.Counted (record_of v bs k) → ⊥) → NoneSo s bs h n
+  not_record h g k v n p e lt none xs f a m q r =
+      let here : k < length xs = omega (arith, m, lt) in
+      let x : X = s.read (record_of s.width bs k) in
+      let fine : s.FineIn h x = each_passes (s.FineIn h) xs (ap unrow q ∙ r.unrow_row (s.op xs) f) a k here in
+      subst (λ (u : ℕ). s.FineIn g (s.read (record_of u bs k)) → s.Counted (record_of u bs k) → ⊥) e none
+      (subst (λ (u : House). s.FineIn u x) (sym p) (w.fine h (s.its h ++ first k) x fine)) (w.counted h bs xs a q k here)
 
 -- house g has so many legs, fares and bookings more than house h
 pub record Grown (h g : House) (a b c : ℕ) : Type 0 where

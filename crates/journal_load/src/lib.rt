@@ -148,15 +148,15 @@ pub fn load_checkpoint(m: &mut Memory, commit: &CommitRecord, n: usize, page: &[
     let leg_pages = (legs + 3) / LEGS_A_PAGE;
     let fare_pages = (fares + 24) / FARES_A_PAGE;
     if n < leg_pages {
-        let left = legs - n * LEGS_A_PAGE;
-        return load::<Leg>(m, page, LEGS_A_PAGE.min(left));
+        let count = LEGS_A_PAGE.min(legs - n * LEGS_A_PAGE);
+        return load::<Leg>(m, page, count);
     }
     let behind_legs = n - leg_pages;
     if behind_legs < fare_pages {
-        let left = fares - behind_legs * FARES_A_PAGE;
-        return load::<Fare>(m, page, FARES_A_PAGE.min(left));
+        let count = FARES_A_PAGE.min(fares - behind_legs * FARES_A_PAGE);
+        return load::<Fare>(m, page, count);
     }
     let behind_fares = behind_legs - fare_pages;
-    let left = bookings - behind_fares * BOOKINGS_A_PAGE;
-    load::<Booking>(m, page, BOOKINGS_A_PAGE.min(left))
+    let count = BOOKINGS_A_PAGE.min(bookings - behind_fares * BOOKINGS_A_PAGE);
+    load::<Booking>(m, page, count)
 }

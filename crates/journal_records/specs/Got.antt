@@ -1,15 +1,16 @@
 -- A record that was read of a page, and when it is in range. Definitions only: nothing is assumed or proved here.
-use Rattle.std.specs.Prelude.{◌≡◌, ℕ, Bool, ◌&&◌, List, Some, None, Option, nat_le, nat_lt}
+use Rattle.std.specs.Prelude.{◌≡◌, ℕ, Bool, ◌&&◌, List, Ok, Err, Result, nat_le, nat_lt}
 use Rattle.meaning.specs.House.{House}
 use Rattle.records.specs.declared.Leg.{Leg}
 use Rattle.records.specs.declared.Fare.{Fare}
 use Rattle.records.specs.declared.Booking.{Booking}
 use Rattle.journal_rows.specs.Sorts.{Sort}
+use Rattle.journal_records.specs.declared.WrongPage.{WrongPage}
 
--- a record of the page that is in range in a house, read of its numbers; or none, where they are not those of one in range
-abbrev pub RecordGot : {X R : Type 0} (s : Sort X) → (R → X) → (House → R → Type 0) → House → List ℕ → Option R → Type 0
-RecordGot s means Sound h ws (Some r) = (means r ≡ s.read ws) × Sound h r
-RecordGot s means Sound h ws None = s.FineIn h (s.read ws) → s.Counted ws → ⊥
+-- a record of the page that is in range in a house, read of its numbers; or the page is wrong, where they are not those of one in range
+abbrev pub RecordGot : {X R : Type 0} (s : Sort X) → (R → X) → (House → R → Type 0) → House → List ℕ → Result R WrongPage → Type 0
+RecordGot s means Sound h ws (Ok r) = (means r ≡ s.read ws) × Sound h r
+RecordGot s means Sound h ws (Err e) = s.FineIn h (s.read ws) → s.Counted ws → ⊥
 
 -- the numbers of a leg in range, but for its limits
 abbrev pub leg_fits : Leg → Bool

@@ -29,6 +29,10 @@ use store::Memory;
 // One more than the largest number of a word.
 const BASE: u64 = 4_294_967_296;
 
+// A page that can't be the one that is asked for, on no chip of a house.
+#[derive(Clone, Copy, PartialEq, Eq, Debug)]
+pub struct WrongPage;
+
 // A record of the house of which a checkpoint keeps several to a page.
 pub trait Record: Drop {
     ghost KIND: { PageKind };
@@ -73,8 +77,8 @@ pub trait Record: Drop {
         requires long { length part.old ≡ 4 * WORDS }
         ensures { part.new ≡ row_of 4 (sort.row (means self.now)) };
 
-    // Record k of a page, for this memory; none if it can't be one.
-    fn read(page: &[u8; 512], k: usize, m: &Memory) -> Option<Self>
+    // Record k of a page, for this memory; or it can't be one.
+    fn read(page: &[u8; 512], k: usize, m: &Memory) -> Result<Self, WrongPage>
         requires { k < A_PAGE }
         ensures { RecordGot sort means IsSound (house m.now) (record_of WORDS page.now k) result };
 
@@ -268,17 +272,17 @@ impl Record for Leg {
         put_words(part, &leg_words(self));
     }
 
-    fn read(page: &[u8; 512], k: usize, _m: &Memory) -> Option<Leg> {
+    fn read(page: &[u8; 512], k: usize, _m: &Memory) -> Result<Leg, WrongPage> {
         let mut words = [0; 31];
         words_at(page, 2 + k * 31, &mut words);
         let leg = read_leg(&words);
         if leg.classes > 26 {
-            return None;
+            return Err(WrongPage);
         }
         if !leg_in_range(&leg) {
-            return None;
+            return Err(WrongPage);
         }
-        Some(leg)
+        Ok(leg)
     }
 
     fn push(&self, m: &mut Memory) {
@@ -327,7 +331,7 @@ impl Record for Fare {
         put_words(part, &fare_words(self));
     }
 
-    fn read(page: &[u8; 512], k: usize, _m: &Memory) -> Option<Fare> {
+    fn read(page: &[u8; 512], k: usize, _m: &Memory) -> Result<Fare, WrongPage> {
         let mut words = [0; 5];
         words_at(page, 2 + k * 5, &mut words);
         let [origin, goal, class, most, price] = words;
@@ -339,9 +343,9 @@ impl Record for Fare {
             price,
         };
         if !fare_in_range(&fare) {
-            return None;
+            return Err(WrongPage);
         }
-        Some(fare)
+        Ok(fare)
     }
 
     fn push(&self, m: &mut Memory) {
@@ -391,15 +395,15 @@ impl Record for Booking {
     }
 
     // Its legs have to be there.
-    fn read(page: &[u8; 512], k: usize, m: &Memory) -> Option<Booking> {
+    fn read(page: &[u8; 512], k: usize, m: &Memory) -> Result<Booking, WrongPage> {
         let mut words = [0; 15];
         words_at(page, 2 + k * 15, &mut words);
         let paid = words[13] as u64 + BASE * words[14] as u64;
         let booking = read_booking(&words[0..13], paid);
         if !booking_in_range(&booking, m.leg_count()) {
-            return None;
+            return Err(WrongPage);
         }
-        Some(booking)
+        Ok(booking)
     }
 
     fn push(&self, m: &mut Memory) {

@@ -101,7 +101,7 @@ module _ {X : Type 0} (s : Sort X) where
   abbrev pub NoneSo : List ℕ → House → ℕ → Type 0
   NoneSo bs h n = (xs : List X) → Fine (s.op xs) → AllOf (s.FineIn h) xs → length xs ≡ n → bs ≡ row (s.op xs) → IsReadBack page_bytes → ⊥
 
-  -- THE LAWS of a sort: a house's records can be others, and only they are; what a page of records says is done by putting them behind the others; its bytes are its records' numbers; what it says is
+  -- THE LAWS of a sort: a house's records can be others, and only they are; what a page of records says is done by putting them behind the others; its bytes are its records' numbers, which fit it; what it says is
   -- known by its kind; and the numbers of a record in range are counted
   pub record IsSort : Type 0 where
     pub same : (h : House) → h ≡ s.put h (s.its h)
@@ -110,6 +110,7 @@ module _ {X : Type 0} (s : Sort X) where
     pub done : (l : calls.Limits) (h : House) (xs : List X) → s.put h (s.its h ++ xs) ≡ op_done l h (s.op xs)
     pub fine : (h : House) (xs : List X) (x : X) → s.FineIn h x → s.FineIn (s.put h xs) x
     pub bytes : (xs : List X) → row (s.op xs) ≡ page (s.kind ∷ (length xs ∷ all_rows s.row xs))
+    pub some : 0 < s.width
     pub fits : s.to_page * s.width ≤ 126
     pub says : (bs : List ℕ) → kind_in bs ≡ s.kind → unrow bs ≡ plain.Option.some (s.op (records_in bs (count_in bs)))
     pub are : (bs : List ℕ) (xs : List X) → unrow bs ≡ plain.Option.some (s.op xs) → (kind_in bs ≡ s.kind) × (records_in bs (count_in bs) ≡ xs)
