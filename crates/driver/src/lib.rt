@@ -17,20 +17,12 @@ ghost use Rattle.journal_steps.specs.Steps.{chip_limits};
 ghost use Rattle.session.specs.Acts.{Ready, at_rest, pending};
 ghost use Rattle.driver.specs.Played.{Acted, CallPlayed, Finished, Kept, OneAct, TakenUp, page_of};
 
-use flash::PageRead;
+use flash::{PageRead, PageState};
 use journal_start::Stage;
 use journal_steps::Journal;
 use protocol::Answer;
 use session::{Effect, Session};
 use store::Memory;
-
-// How a page is, as reading tells.
-#[derive(Clone, Copy)]
-pub enum PageState {
-    Blank,
-    Written,
-    Spoilt,
-}
 
 // A chip, and whoever hears the answers. Each act tells whether power held; where it failed, the act
 // is torn, and nothing more may be done.
