@@ -1,7 +1,8 @@
 -- The commit record that numbers are: none where a test fails, and what they say where all hold.
-use Rattle.std.proofs.Common.{◌≡◌, ℕ, ◌*◌, ◌<◌, ◌≤◌, Bool, true, false, ◌&&◌, ltb, leb, List, Some, Ok, Err, Result, result_ok, get_or, sym, ap, ◌∙◌, arith}
+use Rattle.std.proofs.Common.{◌≡◌, ℕ, ◌*◌, ◌<◌, ◌≤◌, Bool, true, false, ◌&&◌, ltb, leb, List, Some, Ok, Err, Result, get_or, sym, ap, ◌∙◌, arith}
 use mathlib.Core.Option.{Option, none, some}
 use Rattle.std.proofs.lemmas.Bool.{and_left, and_right, and_parts, leb-true, ltb-true}
+use Rattle.std.specs.Result.{result_ok}
 use Rattle.meaning.specs.Lines.{pick}
 use Rattle.meaning.specs.Calls.{Limits}
 use Rattle.journal.specs.Slots.{Turn, Commit}

@@ -26,7 +26,7 @@ returns c =
     let w = within_tells (limits_mean whole c.args.layout.now.limits) ns (sym (c.if-not-is_within.ensures whole)) in
     record {
       told = λ can.
-          is_commit (limits_mean can c.args.layout.now.limits) ns (sym (c.if-not-is_of.ensures can)) (sym (c.if-not-is_within.ensures can)) (turn_of c.in_ok-turn.turn) (turn_so _ c.try_from.result c.in_ok-turn.turn c.try_from.ensures (sym c.in_ok-turn.was ∙ c.ok.ensures.value) ∙ ap number_turn c.word.ensures)
+          is_commit (limits_mean can c.args.layout.now.limits) ns (sym (c.if-not-is_of.ensures can)) (sym (c.if-not-is_within.ensures can)) (turn_of c.in_ok-turn.turn) (turn_so c.word.result c.try_from.result c.in_ok-turn.turn c.try_from.ensures (sym c.in_ok-turn.was ∙ c.ok.ensures.value) ∙ ap number_turn c.word.ensures)
           _ _ _ _ _ c.word-2.ensures c.word-3.ensures c.word-4.ensures c.word-5.ensures c.word-6.ensures;
       within = record {
         clock = omega (arith, w.0, c.word-2.ensures);
