@@ -143,7 +143,7 @@ module _ (m : Memory) (u : InUse) (i : ℕ) (p : Page) where
   unfolding is_blank
   blank_ends f e w a idle q = record {
     reading = ap start.Reading.ready (q (stage m) (store.house m)) ∙ (rw e);
-    fits = record { ranges = found_ranges m.limits c f x i w (omega arith) q; holds = idle };
+    fits = record { ranges = found_ranges m.limits u f i w (omega arith) q; holds = idle };
   }
 
   pub spoilt_passes : p ≡ spoilt → log_on (stage m) u (i + 1) (store.house m) ≡ so

@@ -1,5 +1,6 @@
 -- A page of the checkpoint, and the last of them.
 use Rattle.std.proofs.Common.{◌∙◌, ap, arith}
+use Rattle.std.proofs.lemmas.Result.{err_from_is_err_and}
 use Rattle.flash.specs.Pages.{page_told}
 use Rattle.journal_start.proofs.Steps.{past_at, page_refused, whole_refused, whole_on, none_idle}
 use Rattle.store.specs.Whole.{house}
@@ -8,8 +9,8 @@ use Rattle.journal_start.proofs.take_kept.Goals as goal
 pub returns-in_err-load_checkpoint : goal.returns-in_err-load_checkpoint
 returns-in_err-load_checkpoint c = record {
   next =
-      page_refused c.args.m.now c.load_checkpoint.new.m c.args.in_use c.args.n (page_told c.args.page) c.in-Written.bytes.now (ap page_told c.in-Written.is)
-      c.in_err-load_checkpoint.ensures.refused;
+      rw (err_from_is_err_and c.from_residual.result c.from_residual.ensures.1).1
+      (page_refused c.args.m.now c.load_checkpoint.new.m c.args.in_use c.args.n (page_told c.args.page) c.in-Written.bytes.now (ap page_told c.in-Written.is) c.in_err-load_checkpoint.ensures.refused);
   sound = c.load_checkpoint.ensures.sound;
   lent = c.load_checkpoint.ensures.lent;
 }

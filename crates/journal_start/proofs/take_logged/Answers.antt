@@ -9,8 +9,8 @@ use Rattle.journal_start.proofs.take_logged.Goals as goal
 pub overflow_add-n : goal.overflow_add-n
 overflow_add-n c = let a = c.requires.fits.ranges.more in let b = ring_few c.args.m.now.limits c.requires.sound.limits in omega arith
 
-pub overflow_add-n-2 : goal.overflow_add-n-2
-overflow_add-n-2 c = let a = c.requires.fits.ranges.more in let b = ring_few c.args.m.now.limits c.requires.sound.limits in omega arith
+pub overflow_add-n-in-Written : goal.overflow_add-n-in-Written
+overflow_add-n-in-Written c = let a = c.requires.fits.ranges.more in let b = ring_few c.args.m.now.limits c.requires.sound.limits in omega arith
 
 pub returns-in-Blank : goal.returns-in-Blank
 returns-in-Blank c = record {
@@ -33,15 +33,15 @@ returns-in-Spoilt c =
       lent = lent_none m;
     }
 
-pub returns : goal.returns
-returns c =
+pub returns-in-Some : goal.returns-in-Some
+returns-in-Some c =
     let m = c.args.m.now in
     let n = c.answer_row.new.m in
     let d = c.answer_row.ensures.done in
-    let r = c.replay_on-2.ensures in
+    let r = c.replay_on-in-Written.ensures in
     record {
       next =
-          past_at m n c.new-layout.result.limits c.replay_on-2.result c.args.in_use (c.args.n + 1) _ ((c.new-layout.ensures ∙ c.limits.ensures) ∙ sym d.lent.limits) d.lent r.reading r.ranges r.past d.idle
+          past_at m n c.new-layout.result.limits c.replay_on-in-Written.result c.args.in_use (c.args.n + 1) _ ((c.new-layout.ensures ∙ c.limits.ensures) ∙ sym d.lent.limits) d.lent r.reading r.ranges r.past d.idle
           (call_done m c.args.in_use c.args.n (page_told c.args.page) n c.in-Written.bytes.now (decoded c.in-Some.part.now) (ap page_told c.in-Written.is) c.in-Some.ensures.0 d.leaves);
       sound = d.sound;
       lent = d.lent;

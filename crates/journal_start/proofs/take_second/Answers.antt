@@ -1,5 +1,6 @@
 -- The second slot's commit record, and a chip that was never used.
 use Rattle.std.proofs.Common.{◌∙◌, subst}
+use Rattle.std.proofs.lemmas.Result.{err_from_is_err_and}
 use Rattle.limits.specs.Opening.{limits_mean}
 use Rattle.limits.specs.declared.Limits.{Limits}
 use Rattle.flash.specs.Pages.{page_told}
@@ -11,7 +12,7 @@ use Rattle.journal_start.proofs.take_second.Goals as goal
 
 pub returns-in_err-second : goal.returns-in_err-second
 returns-in_err-second c = record {
-  next = subst (λ (l : Limits). NoCommit (limits_mean stage_calls l) (page_told c.args.page)) (c.new-layout.ensures ∙ c.limits.ensures) (c.in_err-second.ensures stage_calls);
+  next = rw (err_from_is_err_and c.from_residual.result c.from_residual.ensures.1).1 (subst (λ (l : Limits). NoCommit (limits_mean stage_calls l) (page_told c.args.page)) (c.new-layout.ensures ∙ c.limits.ensures) (c.in_err-second.ensures stage_calls));
   sound = c.requires.sound;
   lent = lent_none c.args.m.now;
 }
