@@ -152,7 +152,12 @@ pub fn play_unread<D: Device>(
 }
 
 // Hands the page that was read to a start.
-fn take_page(stage: &mut Stage, m: &mut Memory, state: PageState, bytes: &[u8; 512]) -> Result<(), WrongPage>
+fn take_page(
+    stage: &mut Stage,
+    m: &mut Memory,
+    state: PageState,
+    bytes: &[u8; 512],
+) -> Result<(), WrongPage>
     requires sound { Sound m.old }
     requires fits { StageFits m.old stage.old }
     ensures taken { Taken m.old m.new stage.old stage.new (page_of state bytes.now) result }

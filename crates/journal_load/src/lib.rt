@@ -131,7 +131,12 @@ fn load<R: Record>(m: &mut Memory, page: &[u8; 512], count: usize) -> Result<(),
 
 // Reads page n of the checkpoint with this commit record, behind those before it; or it can't be
 // that page. What was read of it before is then in memory, which is to be given up.
-pub fn load_checkpoint(m: &mut Memory, commit: &CommitRecord, n: usize, page: &[u8; 512]) -> Result<(), WrongPage>
+pub fn load_checkpoint(
+    m: &mut Memory,
+    commit: &CommitRecord,
+    n: usize,
+    page: &[u8; 512],
+) -> Result<(), WrongPage>
     requires sound { Sound m.old }
     requires within { Within m.old.limits commit.now }
     requires number { n < pages (head_of commit.now) }

@@ -214,12 +214,7 @@ fn take_second(
 
 // Takes page n of the checkpoint of the slot in use. With the last of them the house is whole, and
 // nobody in it may wait for what is free.
-fn take_kept(
-    m: &mut Memory,
-    in_use: InUse,
-    n: u32,
-    page: PageRead,
-) -> Result<Stage, WrongPage>
+fn take_kept(m: &mut Memory, in_use: InUse, n: u32, page: PageRead) -> Result<Stage, WrongPage>
     requires sound { Sound m.old }
     requires fits { StageFits m.old (Stage.Reading in_use n) }
     ensures next { Next m.old m.new (Stage.Reading in_use n) (page_told page.entry) result }
@@ -244,12 +239,7 @@ fn take_kept(
 
 // Takes page n of the log: a blank one ends it, a spoilt one is passed over, and the call of any other
 // is done.
-fn take_logged(
-    m: &mut Memory,
-    in_use: InUse,
-    n: u32,
-    page: PageRead,
-) -> Result<Stage, WrongPage>
+fn take_logged(m: &mut Memory, in_use: InUse, n: u32, page: PageRead) -> Result<Stage, WrongPage>
     requires sound { Sound m.old }
     requires fits { StageFits m.old (Stage.Replaying in_use n) }
     ensures next { Next m.old m.new (Stage.Replaying in_use n) (page_told page.entry) result }

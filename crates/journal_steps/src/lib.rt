@@ -19,8 +19,7 @@ const BLOCK: u32 = 16;
 #[derive(Clone, Copy)]
 pub struct Journal {
     // Is there a commit record yet? If not, the first change writes a checkpoint into the first slot.
-    // Kept: the other fields say then too from where the first checkpoint counts on, as any other does;
-    // an option would have to bring them back at every place where they are read.
+    // Kept: the first checkpoint counts on from the other fields too, so an Option would repeat them.
     pub committed: bool,
     // The slot in use.
     pub slot: Slot,

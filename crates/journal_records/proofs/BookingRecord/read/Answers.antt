@@ -24,9 +24,8 @@ pub returns : goal.returns
 returns c =
     let out = c.words_at.new.out in
     let is = c.read_booking-booking.ensures ∙ first_numbers out (get_or out 13 0 + 4294967296 * get_or out 14 0) ∙ ap of_numbers (c.words_at.ensures ∙ placed 15 c.args.page.now c.args.k) in
-    let whole : length c.read_booking-booking.result.legs ≡ 8 = omega arith in
-    (
+    let whole : length c.read_booking-booking.result.legs ≡ 8 = omega arith in (
       ap booking_means is,
       subst (λ (k : ℕ). memory.FineBooking k c.read_booking-booking.result) c.leg_count.ensures
-      (for_memory c.leg_count.result c.read_booking-booking.result whole (c.booking_in_range.ensures.few c.if-not-booking_in_range.false) (c.booking_in_range.ensures.yes c.if-not-booking_in_range.false)),
+          (for_memory c.leg_count.result c.read_booking-booking.result whole (c.booking_in_range.ensures.few c.if-not-booking_in_range.false) (c.booking_in_range.ensures.yes c.if-not-booking_in_range.false)),
     )
