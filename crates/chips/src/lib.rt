@@ -3,16 +3,16 @@
 // crate flash, 513 for a page and sixteen pages for a block.
 #![tactic(auto)]
 
-ghost use Rattle.std.specs.Prelude.{◌≡◌, ◌*◌, ◌<◌, ◌≤◌, true, false, not, [], length, replicate, vec_len, vec_capacity, ◌==◌, slice_index};
+ghost use Rattle.std.specs.Prelude.{◌≡◌, ◌*◌, ◌<◌, ◌≤◌, true, false, not, [], length, vec_len, vec_capacity, ◌==◌, slice_index};
 ghost use Rattle.journal.specs.Acts.{say, wipe, write};
 ghost use Rattle.meaning.specs.Lines.{pick};
 ghost use Rattle.protocol.specs.Forms.{answer_of};
-ghost use Rattle.flash.specs.Pages.{Spent, chip_in, erase_leaves, write_leaves};
+ghost use Rattle.flash.specs.Pages.{Spent, chip_in, erase_leaves, left_by, write_leaves};
 ghost use Rattle.driver.specs.Played.{Acted};
 ghost use Rattle.chips.specs.Recorded.{Counted, blocks_in, chip_of, told_by};
 
-use driver::{Device, PageState};
-use flash::{PageRead, Power, erase_block, read_page, write_page};
+use driver::Device;
+use flash::{Left, PageRead, PageState, Power, erase_block, read_page, write_page};
 use protocol::Answer;
 use std::alloc::Global;
 
@@ -70,7 +70,7 @@ impl<'a> MemoryChip<'a> {
         requires { page < 16 * blocks_in self.old }
         ensures acted { Acted (chip_of self.old) (told_by self.old) (write page bytes.now) (chip_of self.new) (told_by self.new) result }
         ensures size { blocks_in self.new ≡ blocks_in self.old }
-        ensures left { chip_of self.new ≡ write_leaves (chip_of self.old) page bytes.now (pick result 1 (slice_index self.old.power.tear 0)) }
+        ensures left { chip_of self.new ≡ write_leaves (chip_of self.old) page bytes.now (pick result Left.Done (left_by (slice_index self.old.power.tear 0))) }
         ensures power { Spent self.old.power self.new.power (not result) }
         ensures lent { self.new.pages.ghost_name ≡ self.old.pages.ghost_name }
     {
@@ -85,7 +85,7 @@ impl<'a> MemoryChip<'a> {
         requires { block < blocks_in self.old }
         ensures acted { Acted (chip_of self.old) (told_by self.old) (wipe block) (chip_of self.new) (told_by self.new) result }
         ensures size { blocks_in self.new ≡ blocks_in self.old }
-        ensures left { chip_of self.new ≡ erase_leaves (chip_of self.old) block (pick result (replicate 16 1) self.old.power.tear) }
+        ensures left { chip_of self.new ≡ erase_leaves (chip_of self.old) block (λ i. pick result Left.Done (left_by (slice_index self.old.power.tear i))) }
         ensures power { Spent self.old.power self.new.power (not result) }
         ensures lent { self.new.pages.ghost_name ≡ self.old.pages.ghost_name }
     {
@@ -136,7 +136,7 @@ impl Device for MemoryChip<'_> {
         match read_page(self.pages, page as usize) {
             PageRead::Blank => PageState::Blank,
             PageRead::Written(found) => {
-                bytes.copy_from_slice(found);
+                *bytes = *found;
                 PageState::Written
             }
             PageRead::Spoilt => PageState::Spoilt,

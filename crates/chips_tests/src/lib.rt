@@ -8,7 +8,7 @@ ghost use Rattle.chips.specs.Recorded.{blocks_in};
 #[cfg(test)]
 mod tests {
     use chips::MemoryChip;
-    use driver::{Device, PageState};
+    use driver::Device;
     use flash::Power;
     use protocol::Answer;
     use std::alloc::Global;
@@ -22,12 +22,8 @@ mod tests {
         requires { page < 16 * blocks_in device.now }
     {
         let mut bytes = [0; 512];
-        let state = match device.read(page, &mut bytes) {
-            PageState::Blank => 0,
-            PageState::Written => 1,
-            PageState::Spoilt => 2,
-        };
-        (state, bytes[0], bytes[511])
+        let state = device.read(page, &mut bytes);
+        (u8::from(state), bytes[0], bytes[511])
     }
 
     // How page 3 is after a write in which power fails, with this number for the page.

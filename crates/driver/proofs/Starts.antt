@@ -8,6 +8,7 @@ use Rattle.meaning.specs.Calls.{Limits}
 use Rattle.meaning.specs.Chip.{Page, is_blank}
 use Rattle.meaning.specs.Promise.{room_for}
 use Rattle.journal.specs.Slots.{Commit, acted_page, around, commit_of, first, later, ring_page}
+use Rattle.journal.specs.Codes.{is_second}
 use Rattle.journal.specs.Start as start
 use Rattle.journal.specs.Start.{unread, one_commit, reading, replaying, ready, wants, takes, chosen, reads_on, replays_on, found_so, OpenStill}
 use Rattle.journal_rows.specs.Layout.{Head, house, rows, slot_blocks, ring_blocks, most_pages, opened, pages}
@@ -89,30 +90,30 @@ module _ (l : Limits) where
 pub some_left : (l : Limits) (s : Stage) (h : House) (k : ℕ) → OpenStill (house l) (slot_blocks l) (ring_blocks l) (rows l page_bytes) (reading_of l s h) → Some k ≡ wanted l (reading_of l s h) → 0 < unread_pages l (reading_of l s h)
 some_left l Unread h k o e = omega arith
 some_left l (OneCommit c) h k o e = omega arith
-some_left l (Reading x c n) h k o e = omega arith
-some_left l (Replaying x c n) h k o e = omega arith
-some_left l (Ready f) h k o e = let z : ◌≡◌ {A = ℕ} 0 1 = cc in absurd (omega arith)
+some_left l (Reading u n) h k o e = omega arith
+some_left l (Replaying u n) h k o e = omega arith
+some_left l (Ready j) h k o e = let z : ◌≡◌ {A = ℕ} 0 1 = cc in absurd (omega arith)
 
 -- and it is on the chip
 pub wanted_on : (l : code.Limits) (s : Stage) (h : House) (k : ℕ) → Ranges l s → Some k ≡ wanted (chip_limits l) (reading_of (chip_limits l) s h) → k < 16 * room_for (chip_limits l)
 unfolding ring_page
 wanted_on l Unread h k r e = let z : k ≡ 16 * first (slot_blocks (chip_limits l)) false = cc in omega (arith, slot_on (chip_limits l) false)
 wanted_on l (OneCommit c) h k r e = let z : k ≡ 16 * first (slot_blocks (chip_limits l)) true = cc in omega (arith, slot_on (chip_limits l) true)
-wanted_on l (Reading x c n) h k r e =
-    let z : k ≡ 16 * suc (first (slot_blocks (chip_limits l)) x) + n = cc in
+wanted_on l (Reading u n) h k r e =
+    let z : k ≡ 16 * suc (first (slot_blocks (chip_limits l)) (is_second u.slot)) + n = cc in
     let w = r.within in
-    let m = grown c.legs c.fares c.bookings l.legs l.fares l.bookings w.legs w.fares w.bookings in
-    omega (arith, in_slot (chip_limits l) x n (omega (arith, m, r.more)))
-wanted_on l (Replaying x c n) h k r e =
-    let z : k ≡ 16 * (slot_blocks (chip_limits l) + slot_blocks (chip_limits l)) + around (16 * ring_blocks (chip_limits l)) (c.begins + n) = cc in
-    let i = round_in (16 * ring_blocks (chip_limits l)) (c.begins + n) (omega (arith, r.within.begins, r.more)) in
-    omega (arith, in_ring (chip_limits l) (around (16 * ring_blocks (chip_limits l)) (c.begins + n)) i)
-wanted_on l (Ready f) h k r e = let z : ◌≡◌ {A = ℕ} 0 1 = cc in absurd (omega arith)
+    let m = grown u.commit.legs u.commit.fares u.commit.bookings l.legs l.fares l.bookings w.legs w.fares w.bookings in
+    omega (arith, in_slot (chip_limits l) (is_second u.slot) n (omega (arith, m, r.more)))
+wanted_on l (Replaying u n) h k r e =
+    let z : k ≡ 16 * (slot_blocks (chip_limits l) + slot_blocks (chip_limits l)) + around (16 * ring_blocks (chip_limits l)) (u.commit.begins + n) = cc in
+    let i = round_in (16 * ring_blocks (chip_limits l)) (u.commit.begins + n) (omega (arith, r.within.begins, r.more)) in
+    omega (arith, in_ring (chip_limits l) (around (16 * ring_blocks (chip_limits l)) (u.commit.begins + n)) i)
+wanted_on l (Ready j) h k r e = let z : ◌≡◌ {A = ℕ} 0 1 = cc in absurd (omega arith)
 
 -- what was read is within the limits
 pub bounded : (can : ℕ → Bool) (l : code.Limits) (s : Stage) (h : House) → Ranges l s → Bounded (limits_mean can l) (reading_of (limits_mean can l) s h)
 bounded can l Unread h r = tt
 bounded can l (OneCommit c) h r = tt
-bounded can l (Reading x c n) h r = let w = r.within in grown c.legs c.fares c.bookings l.legs l.fares l.bookings w.legs w.fares w.bookings
-bounded can l (Replaying x c n) h r = tt
-bounded can l (Ready f) h r = tt
+bounded can l (Reading u n) h r = let w = r.within in grown u.commit.legs u.commit.fares u.commit.bookings l.legs l.fares l.bookings w.legs w.fares w.bookings
+bounded can l (Replaying u n) h r = tt
+bounded can l (Ready j) h r = tt

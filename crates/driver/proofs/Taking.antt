@@ -15,7 +15,6 @@ use Rattle.journal_steps.specs.Steps.{chip_limits, journal_of}
 use Rattle.journal_steps.specs.declared.Journal.{Journal}
 use Rattle.journal_start.specs.Starting.{Unfit}
 use Rattle.journal_start.specs.Stages.{At, StageFits, reading_of, taken, wanted}
-use Rattle.journal_start.specs.declared.Found.{Found}
 use Rattle.journal_start.specs.declared.Stage.{Stage}
 use Rattle.journal_start.specs.declared.Stage.TheVariants.{Unread, OneCommit, Reading, Replaying, Ready}
 use Rattle.journal_start.proofs.Follows.{Follows, asked, comes_to, goes_on, not_refused, open_still}
@@ -32,9 +31,9 @@ Wanted l s k = (can : ℕ → Bool) (h : House) → Some k ≡ wanted (limits_me
 asked_page : (d : Chip) (m : Memory) (s : Stage) (k : ℕ) → Some k ≡ wanted (stage m) (reading_of (stage m) s (house m)) → d k ≡ asked d m s
 asked_page d m Unread k e = ap d (cc)
 asked_page d m (OneCommit o) k e = ap d (cc)
-asked_page d m (Reading x c n) k e = ap d (cc)
-asked_page d m (Replaying x c n) k e = ap d (cc)
-asked_page d m (Ready f) k e = let z : ◌≡◌ {A = ℕ} 0 1 = cc in absurd (omega arith)
+asked_page d m (Reading u n) k e = ap d (cc)
+asked_page d m (Replaying u n) k e = ap d (cc)
+asked_page d m (Ready j) k e = let z : ◌≡◌ {A = ℕ} 0 1 = cc in absurd (omega arith)
 
 module _ (d : Chip) (m : Memory) (s : Stage) (k : ℕ) (sound : Sound m) (fits : StageFits m s) (met : Follows d m s) (w : Wanted m.limits s k) where
   pub on_chip : (n : ℕ) → room_for (chip_limits m.limits) ≤ n → k < 16 * n
@@ -61,23 +60,17 @@ module _ (d : Chip) (m : Memory) (s : Stage) (k : ℕ) (sound : Sound m) (fits :
         subst (λ (l : Limits). unread_pages (limits_mean stage_calls l) (reading_of (limits_mean stage_calls l) t (house n)) < unread_pages (stage m) v) (sym lent.limits) (subst (λ x. unread_pages (stage m) x < unread_pages (stage m) v) (sym at.reading) f)
 
 -- when none is wanted all is read
-pub none_left : (l : Limits) (s : Stage) (h : House) → None ≡ wanted (limits_mean whole l) (reading_of (limits_mean whole l) s h) → ((f : Found) → s ≡ Ready f → ⊥) → ⊥
+pub none_left : (l : Limits) (s : Stage) (h : House) → None ≡ wanted (limits_mean whole l) (reading_of (limits_mean whole l) s h) → ((j : Journal) → s ≡ Ready j → ⊥) → ⊥
 none_left l Unread h e q = let z : ◌≡◌ {A = ℕ} 0 1 = cc in omega arith
 none_left l (OneCommit o) h e q = let z : ◌≡◌ {A = ℕ} 0 1 = cc in omega arith
-none_left l (Reading x c n) h e q = let z : ◌≡◌ {A = ℕ} 0 1 = cc in omega arith
-none_left l (Replaying x c n) h e q = let z : ◌≡◌ {A = ℕ} 0 1 = cc in omega arith
-none_left l (Ready f) h e q = q f refl
-
--- what was found, as a journal
-abbrev pub found_journal : Found → Journal
-found_journal f = record { committed = f.committed; second = f.second; turn = f.turn; pages = f.pages; begins = f.begins; used = f.used }
+none_left l (Reading u n) h e q = let z : ◌≡◌ {A = ℕ} 0 1 = cc in omega arith
+none_left l (Replaying u n) h e q = let z : ◌≡◌ {A = ℕ} 0 1 = cc in omega arith
+none_left l (Ready j) h e q = q j refl
 
 -- so memory and the journal that was found are the program's start
-pub started : (d : Chip) (m : Memory) (f : Found) (s : Session) → Sound m → StageFits m (Ready f) → Follows d m (Ready f) → Woken (found_journal f) s → Started d m s
-started d m f s sound fits met w =
-    let r = fits.ranges in
-    record {
-      start = ap (λ (j : Journal). journal_of (stage m) j (house m)) w.journal ∙ comes_to d m f met;
-      ready = w.ready m sound fits.holds (record { begins = r.begins; used = r.used; pages = r.pages });
-      rests = w.rests;
-    }
+pub started : (d : Chip) (m : Memory) (j : Journal) (s : Session) → Sound m → StageFits m (Ready j) → Follows d m (Ready j) → Woken j s → Started d m s
+started d m j s sound fits met w = record {
+  start = ap (λ (k : Journal). journal_of (stage m) k (house m)) w.journal ∙ comes_to d m j met;
+  ready = w.ready m sound fits.holds fits.ranges;
+  rests = w.rests;
+}

@@ -11,8 +11,8 @@ use Rattle.journal_rows.specs.Bytes.{page_bytes}
 use Rattle.journal_steps.specs.Steps.{journal_of}
 use Rattle.session.specs.Acts.{Ready, at_rest, state}
 use Rattle.session.specs.declared.Session.{Session}
-use Rattle.driver.specs.declared.PageState.{PageState}
-use Rattle.driver.specs.declared.PageState.TheVariants as reading
+use Rattle.flash.specs.declared.PageState.{PageState}
+use Rattle.flash.specs.declared.PageState.TheVariants as reading
 
 -- the page that reading told, with its bytes
 abbrev pub page_of : PageState → List ℕ → Page

@@ -17,20 +17,13 @@ ghost use Rattle.journal_steps.specs.Steps.{chip_limits};
 ghost use Rattle.session.specs.Acts.{Ready, at_rest, pending};
 ghost use Rattle.driver.specs.Played.{Acted, CallPlayed, Finished, Kept, OneAct, TakenUp, page_of};
 
-use flash::PageRead;
+use flash::{PageRead, PageState};
+use journal_records::WrongPage;
+use journal_rows::Layout;
 use journal_start::Stage;
-use journal_steps::Journal;
 use protocol::Answer;
 use session::{Effect, Session};
 use store::Memory;
-
-// How a page is, as reading tells.
-#[derive(Clone, Copy)]
-pub enum PageState {
-    Blank,
-    Written,
-    Spoilt,
-}
 
 // A chip, and whoever hears the answers. Each act tells whether power held; where it failed, the act
 // is torn, and nothing more may be done.
@@ -159,7 +152,12 @@ pub fn play_unread<D: Device>(
 }
 
 // Hands the page that was read to a start.
-fn take_page(stage: &mut Stage, m: &mut Memory, state: PageState, bytes: &[u8; 512]) -> bool
+fn take_page(
+    stage: &mut Stage,
+    m: &mut Memory,
+    state: PageState,
+    bytes: &[u8; 512],
+) -> Result<(), WrongPage>
     requires sound { Sound m.old }
     requires fits { StageFits m.old stage.old }
     ensures taken { Taken m.old m.new stage.old stage.new (page_of state bytes.now) result }
@@ -183,23 +181,16 @@ pub fn take_up<D: Device>(device: &D, m: &mut Memory, page: &mut [u8; 512]) -> O
     ensures taken { TakenUp (D.Device.chip device.now) m.new result }
     ensures lent { Lent m.old m.new }
 {
-    let limits = m.limits();
+    let layout = Layout::new(m.limits());
     let mut start = Stage::Unread;
-    while let Some(number) = start.wants(&limits) {
+    while let Some(number) = start.wants(&layout) {
         let state = device.read(number, page);
-        if !take_page(&mut start, m, state, page) {
+        let Ok(()) = take_page(&mut start, m, state, page) else {
             return None;
-        }
+        };
     }
-    let Stage::Ready { found } = start else {
+    let Stage::Ready { journal } = start else {
         unreachable()
     };
-    Some(Session::new(Journal {
-        committed: found.committed,
-        second: found.second,
-        turn: found.turn,
-        pages: found.pages,
-        begins: found.begins,
-        used: found.used,
-    }))
+    Some(Session::new(journal))
 }

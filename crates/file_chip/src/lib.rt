@@ -16,8 +16,8 @@ ghost use Rattle.flash.specs.Pages.{chip_in};
 ghost use Rattle.chips.specs.Recorded.{blocks_in, chip_of, told_by};
 
 use chips::MemoryChip;
-use driver::{Device, PageState};
-use flash::Power;
+use driver::Device;
+use flash::{PageState, Power};
 use protocol::Answer;
 use std::alloc::Global;
 use std::fs::File;
@@ -30,13 +30,6 @@ const ROW: u64 = 513;
 
 // Pages to a block.
 const BLOCK: u32 = 16;
-
-// How a page is, in the file.
-const BLANK: u8 = 0;
-
-const WRITTEN: u8 = 1;
-
-const SPOILT: u8 = 2;
 
 // What went wrong outside of the chip: the file could not be written, an answer could not be printed,
 // or there was no memory to record one.
@@ -54,15 +47,6 @@ pub struct FileChip<'a> {
     file: File,
     rt: HostRuntime,
     failed: Option<Fault>,
-}
-
-// The byte that says how a page is.
-fn state_byte(state: PageState) -> u8 {
-    match state {
-        PageState::Blank => BLANK,
-        PageState::Written => WRITTEN,
-        PageState::Spoilt => SPOILT,
-    }
 }
 
 // Puts bytes at a place of a file, and has them reach it.
@@ -104,9 +88,9 @@ impl<'a> FileChip<'a> {
         let place = u64::from(page) * ROW;
         let mut bytes = [0; 512];
         let state = self.mirror.read(page, &mut bytes);
-        put_at(&self.file, place, &[SPOILT])?;
+        put_at(&self.file, place, &[u8::from(PageState::Spoilt)])?;
         put_at(&self.file, place + 1, &bytes)?;
-        put_at(&self.file, place, &[state_byte(state)])
+        put_at(&self.file, place, &[u8::from(state)])
     }
 
     // Stores the pages of a block.

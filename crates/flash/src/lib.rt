@@ -4,34 +4,73 @@
 // chip says, and where power fails it leaves what the definition allows, by numbers that are lent.
 #![tactic(auto)]
 
-ghost use Rattle.std.specs.Prelude.{◌≡◌, ◌+◌, ◌*◌, ◌≤◌, not, ◌∷◌, length, replicate, slice_index};
+ghost use Rattle.std.specs.Prelude.{◌≡◌, ◌+◌, ◌*◌, ◌≤◌, not, ◌∷◌, length, slice_index};
 ghost use Rattle.meaning.specs.Chip.{write, wipe};
 ghost use Rattle.meaning.specs.Lines.{pick};
-ghost use Rattle.flash.specs.Pages.{Acted, ChipIs, RowPut, Spent, chip_in, erase_leaves, page_erased, page_told, write_leaves};
+ghost use Rattle.flash.specs.Pages.{Acted, ChipIs, RowPut, Spent, chip_in, erase_leaves, left_by, number_of, page_erased, page_told, state_of, write_leaves};
 
 // The bytes of a page, and with the one that says how it is.
 pub const PAGE: usize = 512;
 
 const ROW: usize = 513;
 
-// How a page is.
-const BLANK: u8 = 0;
+// How a page is, with the number of it that stands on the chip.
+#[derive(Clone, Copy, PartialEq, Eq, Debug)]
+pub enum PageState {
+    Blank = 0,
+    Written = 1,
+    Spoilt = 2,
+}
 
-const WRITTEN: u8 = 1;
+impl From<u8> for PageState {
+    ghost from_gives = { λ n s. s ≡ state_of n };
 
-const SPOILT: u8 = 2;
+    // A number that is neither of a blank page nor of a written one is of a spoilt one.
+    fn from(number: u8) -> PageState {
+        match number {
+            0 => PageState::Blank,
+            1 => PageState::Written,
+            _ => PageState::Spoilt,
+        }
+    }
+}
 
-// What the act in which power fails leaves of a page.
-const AS_BEFORE: u8 = 0;
+impl From<PageState> for u8 {
+    ghost from_gives = { λ s n. n ≡ number_of s };
 
-const DONE: u8 = 1;
+    // The number that stands on the chip.
+    fn from(state: PageState) -> u8 {
+        state as u8
+    }
+}
 
 // What reading a page tells.
 #[derive(Clone, Copy)]
 pub enum PageRead<'a> {
     Blank,
-    Written(&'a [u8]),
+    Written(&'a [u8; 512]),
     Spoilt,
+}
+
+// What an act leaves of a page: as it was before, as the act makes it, or spoilt.
+#[derive(Clone, Copy, PartialEq, Eq, Debug)]
+pub enum Left {
+    AsBefore,
+    Done,
+    Spoilt,
+}
+
+impl From<u8> for Left {
+    ghost from_gives = { λ n l. l ≡ left_by n };
+
+    // By the number of a tear.
+    fn from(number: u8) -> Left {
+        match number {
+            0 => Left::AsBefore,
+            1 => Left::Done,
+            _ => Left::Spoilt,
+        }
+    }
 }
 
 // When power fails, counted in acts (0 is never), and what it leaves of each page of the act.
@@ -47,66 +86,69 @@ pub fn read_page(pages: &[u8], k: usize) -> PageRead<'_>
     ensures { page_told result ≡ chip_in pages.now k }
 {
     let at = k * ROW;
-    match pages[at] {
-        BLANK => PageRead::Blank,
-        WRITTEN => PageRead::Written(&pages[at + 1..at + ROW]),
-        _ => PageRead::Spoilt,
+    match PageState::from(pages[at]) {
+        PageState::Blank => PageRead::Blank,
+        PageState::Written => {
+            let Some((bytes, _)) = pages[at + 1..].split_first_chunk() else {
+                unreachable!()
+            };
+            PageRead::Written(bytes)
+        }
+        PageState::Spoilt => PageRead::Spoilt,
     }
 }
 
 // Fills the bytes of one page.
-fn fill_row(row: &mut [u8], how: u8, bytes: &[u8])
-    requires { (length row.old ≡ 513) × (length bytes.now ≡ 512) }
-    ensures { row.new ≡ how ∷ bytes.now }
+fn fill_row(row: &mut [u8], state: PageState, bytes: &[u8; 512])
+    requires { length row.old ≡ 513 }
+    ensures { row.new ≡ number_of state ∷ bytes.now }
 {
-    row[0] = how;
+    row[0] = u8::from(state);
     row[1..ROW].copy_from_slice(bytes);
 }
 
 // Puts another page in the place of page k.
-fn put_page(pages: &mut [u8], k: usize, how: u8, bytes: &[u8])
-    requires { (k * 513 + 513 ≤ length pages.old) × (length bytes.now ≡ 512) }
-    ensures { RowPut k (how ∷ bytes.now) pages.old pages.new }
+fn put_page(pages: &mut [u8], k: usize, state: PageState, bytes: &[u8; 512])
+    requires { k * 513 + 513 ≤ length pages.old }
+    ensures { RowPut k (number_of state ∷ bytes.now) pages.old pages.new }
 {
     let at = k * ROW;
-    fill_row(&mut pages[at..at + ROW], how, bytes);
+    fill_row(&mut pages[at..at + ROW], state, bytes);
 }
 
-// Writes a page, or what is left of that by the number of a tear: a page that is not blank is spoilt.
-fn write_as(pages: &mut [u8], k: usize, bytes: &[u8], how: u8)
-    requires { (k * 513 + 513 ≤ length pages.old) × (length bytes.now ≡ 512) }
-    ensures { ChipIs (write_leaves (chip_in pages.old) k bytes.now how) pages.old pages.new }
-{
-    if how == AS_BEFORE {
-        return;
-    }
-    let is_blank = pages[k * ROW] == BLANK;
-    if how == DONE && is_blank {
-        put_page(pages, k, WRITTEN, bytes);
-    } else {
-        put_page(pages, k, SPOILT, &[0; PAGE]);
-    }
-}
-
-// Makes a page blank, or what is left of that by the number of a tear.
-fn erase_as(pages: &mut [u8], k: usize, how: u8)
+// Spoils page k.
+fn spoil(pages: &mut [u8], k: usize)
     requires { k * 513 + 513 ≤ length pages.old }
-    ensures { ChipIs (page_erased (chip_in pages.old) k how) pages.old pages.new }
+    ensures { ChipIs (page_erased (chip_in pages.old) k Left.Spoilt) pages.old pages.new }
 {
-    if how == AS_BEFORE {
-        return;
-    }
-    let state = if how == DONE { BLANK } else { SPOILT };
-    put_page(pages, k, state, &[0; PAGE]);
+    put_page(pages, k, PageState::Spoilt, &[0; PAGE]);
 }
 
-// Makes each page of a block blank, or what is left of that by the numbers of a tear.
-fn erase_block_as(pages: &mut [u8], block: usize, tear: &[u8; 16])
-    requires { (block * 16 + 16) * 513 ≤ length pages.old }
-    ensures { ChipIs (erase_leaves (chip_in pages.old) block tear.now) pages.old pages.new }
+// Writes a page, or what is left of that: a page that is not blank is spoilt.
+#[tactic(auto, unfolding(meaning::specs::Chip::written_on))]
+fn write_as(pages: &mut [u8], k: usize, bytes: &[u8; 512], left: Left)
+    requires { k * 513 + 513 ≤ length pages.old }
+    ensures { ChipIs (write_leaves (chip_in pages.old) k bytes.now left) pages.old pages.new }
 {
-    for i in 0..16 {
-        erase_as(pages, block * 16 + i, tear[i]);
+    match left {
+        Left::AsBefore => {}
+        Left::Done => match read_page(pages, k) {
+            PageRead::Blank => put_page(pages, k, PageState::Written, bytes),
+            _ => spoil(pages, k),
+        },
+        Left::Spoilt => spoil(pages, k),
+    }
+}
+
+// Makes a page blank, or what is left of that.
+fn erase_as(pages: &mut [u8], k: usize, left: Left)
+    requires { k * 513 + 513 ≤ length pages.old }
+    ensures { ChipIs (page_erased (chip_in pages.old) k left) pages.old pages.new }
+{
+    match left {
+        Left::AsBefore => {}
+        Left::Done => put_page(pages, k, PageState::Blank, &[0; PAGE]),
+        Left::Spoilt => spoil(pages, k),
     }
 }
 
@@ -121,28 +163,35 @@ impl Power {
     }
 }
 
+// What an act leaves of a page: it is done where power held, else what the number of the tear says.
+fn left_if(held: bool, number: u8) -> Left
+    ensures { result ≡ pick held Left.Done (left_by number) }
+{
+    if held { Left::Done } else { Left::from(number) }
+}
+
 // Writes a page. Gives whether power held; where it failed, the page is torn as the power says.
 pub fn write_page(pages: &mut [u8], power: &mut Power, k: usize, bytes: &[u8; 512]) -> bool
     requires { k * 513 + 513 ≤ length pages.old }
     ensures acted { Acted (write k bytes.now) pages.old pages.new result }
-    ensures left { ChipIs (write_leaves (chip_in pages.old) k bytes.now (pick result 1 (slice_index power.old.tear 0))) pages.old pages.new }
+    ensures left { ChipIs (write_leaves (chip_in pages.old) k bytes.now (pick result Left.Done (left_by (slice_index power.old.tear 0)))) pages.old pages.new }
     ensures power { Spent power.old power.new (not result) }
 {
-    let fails = power.fails();
-    let how = if fails { power.tear[0] } else { DONE };
-    write_as(pages, k, bytes, how);
-    !fails
+    let held = !power.fails();
+    write_as(pages, k, bytes, left_if(held, power.tear[0]));
+    held
 }
 
 // Erases a block. Gives whether power held; where it failed, each page is torn as the power says.
 pub fn erase_block(pages: &mut [u8], power: &mut Power, block: usize) -> bool
     requires { (block * 16 + 16) * 513 ≤ length pages.old }
     ensures acted { Acted (wipe block) pages.old pages.new result }
-    ensures left { ChipIs (erase_leaves (chip_in pages.old) block (pick result (replicate 16 1) power.old.tear)) pages.old pages.new }
+    ensures left { ChipIs (erase_leaves (chip_in pages.old) block (λ i. pick result Left.Done (left_by (slice_index power.old.tear i)))) pages.old pages.new }
     ensures power { Spent power.old power.new (not result) }
 {
-    let fails = power.fails();
-    let tear = if fails { power.tear } else { [DONE; 16] };
-    erase_block_as(pages, block, &tear);
-    !fails
+    let held = !power.fails();
+    for (i, number) in power.tear.iter().enumerate() {
+        erase_as(pages, block * 16 + i, left_if(held, *number));
+    }
+    held
 }

@@ -1,11 +1,11 @@
 -- Records put into a page one behind the other, of whatever kind and width.
-use Rattle.std.proofs.Common.{◌≡◌, ℕ, suc, ◌+◌, ◌-◌, ◌*◌, ◌<◌, ◌≤◌, min, List, [], ◌∷◌, ◌++◌, length, get_or, take, drop, sym, ap, ◌∙◌, append_assoc, mul-le-mul_right, suc-mul, arith, length-append}
+use Rattle.std.proofs.Common.{◌≡◌, ℕ, suc, ◌+◌, ◌-◌, ◌*◌, ◌<◌, ◌≤◌, min, List, [], ◌∷◌, ◌++◌, length, get_or, take, drop, sym, ap, ◌∙◌, append_assoc, mul-le-mul_left, mul-le-mul_right, suc-mul, arith, length-append}
 use borrow.Rule.Slice.PartMut.{put_mid}
 use Rattle.std.proofs.lemmas.List.{take_all, take_more, get_or-take, get_or-drop, length-take, length-drop, append-nil}
 use Rattle.wire.specs.Bytes.{row_of}
 use Rattle.wire.proofs.Fields.{row_length}
 use Rattle.journal_rows.specs.Bytes.{filled, page, all_rows}
-use Rattle.journal_fill.proofs.Pages.{row_append, page_is, more}
+use Rattle.journal_records.proofs.Pages.{row_append, page_is, more}
 
 rows_push : {X : Type 0} (f : X → List ℕ) (xs : List X) (x : X) → all_rows f (xs ++ (x ∷ [])) ≡ all_rows f xs ++ f x
 unfolding all_rows
@@ -54,3 +54,14 @@ module _ {X : Type 0} (f : X → List ℕ) (w kind room first : ℕ) (all : List
   pub all_put : (n count i : ℕ) (out : List ℕ) → n ≡ length all → count ≡ min room (n - first) → count ≤ i → Put f w kind some i out → out ≡ page (kind ∷ (length some ∷ all_rows f some))
   all_put n count i out e m le p =
       p.bytes ∙ (ap (λ z. filled (row_of 4 (kind ∷ (length some ∷ all_rows f z)))) (take_all i some (omega (arith, counted n count e m))) ∙ sym (page_is (kind ∷ (length some ∷ all_rows f some))))
+
+-- as many as there is room for stay within the page
+pub row_fits : (i count room w : ℕ) → i < count → count ≤ room → room * w ≤ 126 → 8 + i * (4 * w) + 4 * w ≤ 512
+row_fits i count room w h r f =
+    let a-row : suc i * w ≡ i * w + w = suc-mul i w in
+    let fit : suc i * w ≤ room * w = mul-le-mul_right w (omega arith) in
+    omega arith
+
+-- and are few
+pub room_few : (room w : ℕ) → 0 < w → room * w ≤ 126 → room ≤ 126
+room_few room w p f = let fit : room * 1 ≤ room * w = mul-le-mul_left room p in omega arith

@@ -4,58 +4,31 @@
 // pages are defined: `row`, `call_page` and `page_bytes` of the crate journal_rows.
 #![tactic(auto)]
 
-ghost use Rattle.std.specs.Prelude.{◌≡◌, ℕ, ◌*◌, ◌<◌, ◌≤◌, Bool, [], ◌∷◌, length, take, drop};
+ghost use Rattle.std.specs.Prelude.{◌≡◌, ℕ, ◌<◌, ◌≤◌, Bool, [], ◌∷◌, length};
 ghost use Rattle.wire.specs.Bytes.{row_of};
 ghost use Rattle.limits.specs.Opening.{limits_mean};
-ghost use Rattle.records.specs.Means.{booking_means, fare_means, leg_means};
 ghost use Rattle.store.specs.Whole.{Sound, house};
 ghost use Rattle.journal.specs.Codes.{turn_of};
-ghost use Rattle.journal_rows.specs.Layout.{checkpoint_page, head, pages, some_bookings, some_fares, some_legs};
-ghost use Rattle.journal_rows.specs.Bytes.{booking_row, call_page, fare_row, filled, leg_row, page_bytes, row, turn_number};
+ghost use Rattle.journal_rows.specs.Layout.{checkpoint_page, head, pages};
+ghost use Rattle.journal_rows.specs.Bytes.{call_page, filled, page_bytes, row};
+ghost use Rattle.journal_rows.specs.Kinds.{kind_number};
+ghost use Rattle.journal_rows.specs.Sorts.{page_of};
 
 use journal::Turn;
-use journal_rows::{BOOKINGS_A_PAGE, FARES_A_PAGE, LEGS_A_PAGE};
+use journal_records::{Record, put_words};
+use journal_rows::{BOOKINGS_A_PAGE, FARES_A_PAGE, LEGS_A_PAGE, PageKind};
 use records::{Booking, Fare, Leg};
 use store::Memory;
-use wire::put_numbers;
 
-// What the first number of a page says.
-const COMMIT: u32 = 1;
-
-const LEGS: u32 = 2;
-
-const FARES: u32 = 3;
-
-const BOOKINGS: u32 = 4;
-
-const CALL: u32 = 5;
-
-// Bytes of what every page begins with, and of a leg, a fare and a booking behind that.
+// Bytes of what every page begins with.
 const HEAD_BYTES: usize = 8;
 
-const LEG_BYTES: usize = 124;
-
-const FARE_BYTES: usize = 20;
-
-const BOOKING_BYTES: usize = 60;
-
-// One more than the largest number of a word.
-const BASE: u64 = 4_294_967_296;
-
-// Writes words into a part of a page that has just their length, the lowest byte of each first.
-fn put_words(part: &mut [u8], words: &[u32])
-    requires { length part.old ≡ 4 * length words.now }
-    ensures { part.new ≡ row_of 4 words.now }
-{
-    put_numbers(part, 0, words);
-}
-
 // Begins a page with its kind and one number more: a turn, or how much follows. All behind them is 0.
-fn begin(page: &mut [u8; 512], kind: u32, number: u32)
-    ensures { page.new ≡ filled (row_of 4 (kind ∷ (number ∷ []))) }
+fn begin(page: &mut [u8; 512], kind: PageKind, number: u32)
+    ensures { page.new ≡ filled (row_of 4 (kind_number kind ∷ (number ∷ []))) }
 {
     *page = [0; 512];
-    put_words(&mut page[0..HEAD_BYTES], &[kind, number]);
+    put_words(&mut page[0..HEAD_BYTES], &[u32::from(kind), number]);
 }
 
 // The page of a call, by its own bytes.
@@ -63,19 +36,8 @@ pub fn fill_call(call: &[u8], page: &mut [u8; 512])
     requires { length call.now ≤ 504 }
     ensures { page.new ≡ call_page call.now }
 {
-    begin(page, CALL, call.len() as u32);
+    begin(page, PageKind::Call, call.len() as u32);
     page[HEAD_BYTES..HEAD_BYTES + call.len()].copy_from_slice(call);
-}
-
-// The number of a turn.
-fn turn_number(turn: Turn) -> u32
-    ensures { result ≡ turn_number (turn_of turn) }
-{
-    match turn {
-        Turn::One => 1,
-        Turn::Two => 2,
-        Turn::Three => 3,
-    }
 }
 
 // The commit record of the house in memory.
@@ -96,88 +58,22 @@ pub fn fill_commit(m: &Memory, turn: Turn, begins: u32, page: &mut [u8; 512])
         m.booking_count() as u32,
         begins,
     ];
-    begin(page, COMMIT, turn_number(turn));
+    begin(page, PageKind::Commit, u32::from(turn));
     put_words(&mut page[HEAD_BYTES..HEAD_BYTES + 40], &words);
 }
 
-// The words of a leg: where its limits end, zeros follow, whatever stands in its array.
-fn leg_words(g: &Leg) -> [u32; 31]
-    requires { g.now.classes ≤ 26 }
-    ensures words { result ≡ leg_row (leg_means g.now) }
-    ensures long { length result ≡ 31 }
-{
-    let n = g.classes as usize;
-    let mut words = [0; 31];
-    words[0..5].copy_from_slice(&[g.from, g.to, g.leaves, g.arrives, g.classes]);
-    words[5..5 + n].copy_from_slice(&g.limits[0..n]);
-    words
-}
-
-// The words of a fare.
-fn fare_words(f: &Fare) -> [u32; 5]
-    ensures words { result ≡ fare_row (fare_means f.now) }
-    ensures long { length result ≡ 5 }
-{
-    [f.origin, f.goal, f.class, f.most, f.price]
-}
-
-// The words of a booking: where its legs end, zeros follow, and then what was paid, its low half
-// first.
-fn booking_words(b: &Booking) -> [u32; 15]
-    requires { b.now.count ≤ 8 }
-    ensures words { result ≡ booking_row (booking_means b.now) }
-    ensures long { length result ≡ 15 }
-{
-    let n = b.count as usize;
-    let mut words = [0; 15];
-    words[0..5].copy_from_slice(&[b.class, b.seats, b.stands, b.until, b.count]);
-    words[5..5 + n].copy_from_slice(&b.legs[0..n]);
-    words[13..15].copy_from_slice(&[(b.paid % BASE) as u32, (b.paid / BASE) as u32]);
-    words
-}
-
-// A page of legs, from the first of them on as many as it has room for.
-fn fill_legs(m: &Memory, first: usize, page: &mut [u8; 512])
+// A page of records, from the first of them on as many as it has room for.
+fn fill<R: Record>(m: &Memory, first: usize, page: &mut [u8; 512])
     requires sound { Sound m.now }
-    requires there { first ≤ length (house m.now).legs }
-    ensures { page.new ≡ row (some_legs (take 4 (drop first (house m.now).legs))) }
+    requires there { first ≤ length (R.sort.its (house m.now)) }
+    ensures { page.new ≡ row (page_of R.sort (house m.now) first) }
 {
-    let count = LEGS_A_PAGE.min(m.leg_count() - first);
-    begin(page, LEGS, count as u32);
+    let count = R::A_PAGE.min(R::count(m) - first);
+    begin(page, R::KIND, count as u32);
     for i in 0..count {
-        let at = HEAD_BYTES + i * LEG_BYTES;
-        let leg = m.leg(first + i);
-        put_words(&mut page[at..at + LEG_BYTES], &leg_words(&leg));
-    }
-}
-
-// A page of fares, from the first of them on as many as it has room for.
-fn fill_fares(m: &Memory, first: usize, page: &mut [u8; 512])
-    requires sound { Sound m.now }
-    requires there { first ≤ length (house m.now).fares }
-    ensures { page.new ≡ row (some_fares (take 25 (drop first (house m.now).fares))) }
-{
-    let count = FARES_A_PAGE.min(m.fare_count() - first);
-    begin(page, FARES, count as u32);
-    for i in 0..count {
-        let at = HEAD_BYTES + i * FARE_BYTES;
-        let fare = m.fare(first + i);
-        put_words(&mut page[at..at + FARE_BYTES], &fare_words(&fare));
-    }
-}
-
-// A page of bookings, from the first of them on as many as it has room for.
-fn fill_bookings(m: &Memory, first: usize, page: &mut [u8; 512])
-    requires sound { Sound m.now }
-    requires there { first ≤ length (house m.now).bookings }
-    ensures { page.new ≡ row (some_bookings (take 8 (drop first (house m.now).bookings))) }
-{
-    let count = BOOKINGS_A_PAGE.min(m.booking_count() - first);
-    begin(page, BOOKINGS, count as u32);
-    for i in 0..count {
-        let at = HEAD_BYTES + i * BOOKING_BYTES;
-        let booking = m.booking(first + i);
-        put_words(&mut page[at..at + BOOKING_BYTES], &booking_words(&booking));
+        let at = HEAD_BYTES + i * (4 * R::WORDS);
+        let record = R::at(m, first + i);
+        record.put(&mut page[at..at + 4 * R::WORDS]);
     }
 }
 
@@ -189,14 +85,14 @@ pub fn fill_checkpoint(m: &Memory, j: usize, page: &mut [u8; 512])
 {
     let leg_pages = m.leg_count().div_ceil(LEGS_A_PAGE);
     if j < leg_pages {
-        fill_legs(m, j * LEGS_A_PAGE, page);
+        fill::<Leg>(m, j * LEGS_A_PAGE, page);
         return;
     }
     let k = j - leg_pages;
     let fare_pages = m.fare_count().div_ceil(FARES_A_PAGE);
     if k < fare_pages {
-        fill_fares(m, k * FARES_A_PAGE, page);
+        fill::<Fare>(m, k * FARES_A_PAGE, page);
     } else {
-        fill_bookings(m, (k - fare_pages) * BOOKINGS_A_PAGE, page);
+        fill::<Booking>(m, (k - fare_pages) * BOOKINGS_A_PAGE, page);
     }
 }

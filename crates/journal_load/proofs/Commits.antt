@@ -1,12 +1,16 @@
 -- The commit record that numbers are: none where a test fails, and what they say where all hold.
-use Rattle.std.proofs.Common.{◌≡◌, ℕ, ◌*◌, ◌<◌, ◌≤◌, Bool, true, false, ◌&&◌, ltb, leb, List, get_or, sym, ap, ◌∙◌}
+use Rattle.std.proofs.Common.{◌≡◌, ℕ, ◌*◌, ◌<◌, ◌≤◌, Bool, true, false, ◌&&◌, ltb, leb, List, Some, Ok, Err, Result, get_or, sym, ap, ◌∙◌, arith}
 use mathlib.Core.Option.{Option, none, some}
 use Rattle.std.proofs.lemmas.Bool.{and_left, and_right, and_parts, leb-true, ltb-true}
+use Rattle.std.specs.Result.{result_ok}
 use Rattle.meaning.specs.Lines.{pick}
 use Rattle.meaning.specs.Calls.{Limits}
 use Rattle.journal.specs.Slots.{Turn, Commit}
 use Rattle.journal_rows.specs.Layout.{Head, ring_blocks}
-use Rattle.journal_rows.specs.Bytes.{of_limits, in_limits, with_turn, number_turn, numbers_commit}
+use Rattle.journal.specs.declared.Turn as code
+use Rattle.journal.specs.declared.NoTurn.{NoTurn}
+use Rattle.journal.specs.Codes.{turn_of, turn_told, number_turn}
+use Rattle.journal_rows.specs.Bytes.{of_limits, in_limits, with_turn, numbers_commit}
 
 module _ (l : Limits) (ns : List ℕ) where
   -- what is said beside the turn
@@ -37,3 +41,8 @@ module _ (l : Limits) (ns : List ℕ) where
       let b = and_parts (leb (get_or ns 9 0) l.fares && leb (get_or ns 10 0) l.bookings) _ p.1 in
       let d = and_parts (leb (get_or ns 9 0) l.fares) _ b.0 in
       (ltb-true _ _ a.0, leb-true _ _ a.1, leb-true _ _ d.0, leb-true _ _ d.1, ltb-true _ _ b.1)
+
+-- a turn that was read is that of its number
+pub turn_so : (n : ℕ) (r : Result code.Turn NoTurn) (t : code.Turn) → turn_told r ≡ number_turn n → Some t ≡ result_ok r → some (turn_of t) ≡ number_turn n
+turn_so n (Ok u) t e f = let z : t ≡ u = cc in ap (λ (x : code.Turn). some (turn_of x)) z ∙ e
+turn_so n (Err x) t e f = let z : ◌≡◌ {A = ℕ} 0 1 = cc in absurd (omega arith)

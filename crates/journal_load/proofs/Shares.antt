@@ -1,5 +1,5 @@
 -- What each page of a checkpoint says, by its number, and that it is in range where a journal can keep the house; so what no such page says is no page of it.
-use Rattle.std.proofs.Common.{◌≡◌, ℕ, ◌+◌, ◌-◌, ◌*◌, ◌<◌, ◌≤◌, min, Bool, ltb, List, length, take, drop, ap, ◌∙◌, subst, arith}
+use Rattle.std.proofs.Common.{◌≡◌, ℕ, ◌+◌, ◌-◌, ◌*◌, ◌<◌, ◌≤◌, min, Bool, ltb, List, length, take, drop, sym, ap, ◌∙◌, subst, arith}
 use Rattle.std.proofs.lemmas.Bool.{lt-ltb, le-ltb}
 use Rattle.std.proofs.lemmas.List.{length-take, length-drop}
 use Rattle.meaning.specs.Lines.{pick}
@@ -8,9 +8,11 @@ use Rattle.meaning.specs.Calls.{Limits}
 use Rattle.journal.specs.Slots.{AllOf}
 use Rattle.journal_rows.specs.Layout.{Op, Head, some_legs, some_fares, some_bookings, leg_pages, fare_pages, checkpoint_page, head, pages, FineLeg, FineFare, FineBooking, Good, IsReadBack}
 use Rattle.journal_rows.specs.Bytes.{row, page_bytes}
-use Rattle.journal_load.specs.Pages.{head_of, NoLegs, NoFares, NoBookings, Loaded, Grown}
+use Rattle.journal_load.specs.Pages.{head_of, Loaded}
 use Rattle.journal_load.specs.declared.CommitRecord.{CommitRecord}
-use Rattle.journal_load.proofs.Cuts.{all_map, all_take, all_drop}
+use Rattle.journal_rows.specs.Sorts.{leg_sort, fare_sort, booking_sort, NoneSo}
+use Rattle.journal_rows.proofs.Cuts.{all_map, all_take, all_drop}
+use Rattle.journal_load.proofs.Sorts.{Grown}
 
 -- how many a handful from a place on has
 pub handful : {X : Type 0} (w j : ℕ) (xs : List X) → length (take w (drop j xs)) ≡ min w (length xs - j)
@@ -66,32 +68,34 @@ module _ (c : CommitRecord) (l : Limits) (h : House) (good : Good l h) (e : head
   bookings_so : length h.bookings ≡ c.bookings
   bookings_so = ap (λ (s : Head). s.bookings) e
 
-  pub refused_legs : j < leg_pages c.legs → (n : ℕ) → n ≡ min 4 (c.legs - j * 4) → NoLegs bs n → ⊥
-  refused_legs p n m none =
+  pub refused_legs : j < leg_pages c.legs → (n : ℕ) → n ≡ min 4 (c.legs - j * 4) → (g : House) → NoneSo leg_sort bs g n → ⊥
+  refused_legs p n m g none =
       let k = handful 4 (j * 4) h.legs in
+      let all : AllOf FineLeg (take 4 (drop (j * 4) h.legs)) = all_take FineLeg 4 (drop (j * 4) h.legs) (all_drop FineLeg (j * 4) h.legs good.fine_legs) in
       none (take 4 (drop (j * 4) h.legs))
-      (omega (arith, k), all_take FineLeg 4 (drop (j * 4) h.legs) (all_drop FineLeg (j * 4) h.legs good.fine_legs))
+      (omega (arith, k), all) all
       (omega (arith, k, m, legs_so))
       (is ∙ ap row (page_of_legs h j (omega (arith, legs_so)))) r
 
-  pub refused_fares : leg_pages c.legs ≤ j → j - leg_pages c.legs < fare_pages c.fares → (n : ℕ) → n ≡ min 25 (c.fares - (j - leg_pages c.legs) * 25) → NoFares bs n → ⊥
-  refused_fares p q n m none =
+  pub refused_fares : leg_pages c.legs ≤ j → j - leg_pages c.legs < fare_pages c.fares → (n : ℕ) → n ≡ min 25 (c.fares - (j - leg_pages c.legs) * 25) → (g : House) → NoneSo fare_sort bs g n → ⊥
+  refused_fares p q n m g none =
       let i : ℕ = (j - leg_pages (length h.legs)) * 25 in
       let k = handful 25 i h.fares in
+      let all : AllOf FineFare (take 25 (drop i h.fares)) = all_take FineFare 25 (drop i h.fares) (all_drop FineFare i h.fares good.fine_fares) in
       none (take 25 (drop i h.fares))
-      (omega (arith, k), all_take FineFare 25 (drop i h.fares) (all_drop FineFare i h.fares good.fine_fares))
+      (omega (arith, k), all) all
       (omega (arith, k, m, legs_so, fares_so))
       (is ∙ ap row (page_of_fares h j (omega (arith, legs_so)) (omega (arith, legs_so, fares_so)))) r
 
-  pub refused_bookings : leg_pages c.legs ≤ j → fare_pages c.fares ≤ j - leg_pages c.legs → (n : ℕ) → n ≡ min 8 (c.bookings - (j - leg_pages c.legs - fare_pages c.fares) * 8) → NoBookings bs c.legs n → ⊥
-  refused_bookings p q n m none =
+  pub refused_bookings : leg_pages c.legs ≤ j → fare_pages c.fares ≤ j - leg_pages c.legs → (n : ℕ) → n ≡ min 8 (c.bookings - (j - leg_pages c.legs - fare_pages c.fares) * 8) → (g : House) → length g.legs ≡ c.legs → NoneSo booking_sort bs g n → ⊥
+  refused_bookings p q n m g so none =
       let i : ℕ = ((j - leg_pages (length h.legs)) - fare_pages (length h.fares)) * 8 in
       let k = handful 8 i h.bookings in
       let xs : List Booking = take 8 (drop i h.bookings) in
       let all : AllOf (FineBooking (length h.legs)) xs = all_take (FineBooking (length h.legs)) 8 (drop i h.bookings) (all_drop (FineBooking (length h.legs)) i h.bookings good.fine_bookings) in
       none xs
       (omega (arith, k), all_map (FineBooking (length h.legs)) (FineBooking 65536) (booking_among (length h.legs) 65536 (omega (arith, good.few_legs, good.sizes.3))) xs all)
-      (subst (λ (v : ℕ). AllOf (FineBooking v) xs) legs_so all)
+      (subst (λ (v : ℕ). AllOf (FineBooking v) xs) (legs_so ∙ sym so) all)
       (omega (arith, k, m, legs_so, fares_so, bookings_so))
       (is ∙ ap row (page_of_bookings h j (omega (arith, legs_so)) (omega (arith, legs_so, fares_so)))) r
 

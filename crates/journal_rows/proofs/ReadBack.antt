@@ -18,7 +18,8 @@ use Rattle.records.specs.Words.{padded}
 use Rattle.records.proofs.News.{unpadded}
 use Rattle.journal.specs.Slots.{Turn, one, two, three, whole_row, AllOf}
 use Rattle.journal_rows.specs.Layout.{Op, taken_call, some_legs, some_fares, some_bookings, Head, head, is_change, ring_blocks, FineLeg, FineFare, FineBooking, Fine, Good, IsReadBack}
-use Rattle.journal_rows.specs.Bytes.{page, leg_row, row_leg, fare_row, row_fare, booking_row, row_booking, all_rows, cut, call_page, row, unrow, turn_number, number_turn, commit_numbers, numbers_commit, page_bytes}
+use Rattle.journal.specs.Codes.{turn_number, number_turn}
+use Rattle.journal_rows.specs.Bytes.{page, leg_row, row_leg, fare_row, row_fare, booking_row, row_booking, all_rows, cut, call_page, row, unrow, commit_numbers, numbers_commit, page_bytes}
 use Rattle.journal_rows.proofs.Every.{all_join, all_from}
 use Rattle.journal_rows.proofs.Ranges.{Small, leg_range, fare_range, booked_range, call_range}
 
@@ -99,7 +100,7 @@ take_padded : (n : ℕ) (xs rest : List ℕ) → length xs ≤ n → take (lengt
 take_padded n xs rest h = ap (take (length xs)) (take_at (padded n xs) rest n (length_padded n xs h)) ∙ unpadded n xs
 
 -- a leg's row
-leg_length : (g : Leg) → FineLeg g → length (leg_row g) ≡ 31
+pub leg_length : (g : Leg) → FineLeg g → length (leg_row g) ≡ 31
 leg_length g f = let e = length_padded 26 g.limits (leg_range g f).limits.few in omega arith
 
 leg_back : (g : Leg) → FineLeg g → row_leg (leg_row g) ≡ g

@@ -9,7 +9,8 @@ use Rattle.wire.specs.Bytes.{row_of, numbers_in}
 use Rattle.wire.specs.Rows.{encoded, decoded}
 use Rattle.records.specs.Words.{padded, leg_read, fare_read, booking_read}
 use Rattle.records.specs.Means.{leg_means, fare_means, booking_means}
-use Rattle.journal.specs.Slots.{Turn, one, two, three, Commit}
+use Rattle.journal.specs.Slots.{Turn, Commit}
+use Rattle.journal.specs.Codes.{turn_number, number_turn}
 use Rattle.journal_rows.specs.Layout.{Op, taken_call, some_legs, some_fares, some_bookings, Head, ring_blocks, Bytes}
 
 -- THE BYTES of a page with these numbers
@@ -72,15 +73,6 @@ unrow bs =
     (pick (kind == 3) (some (some_fares (cut row_fare 5 n (drop 2 ns))))
     (pick (kind == 4) (some (some_bookings (cut row_booking 15 n (drop 2 ns))))
     (pick (kind == 5) (some (taken_call (decoded (take n (drop 8 bs))))) none)))
-
--- turns as numbers
-abbrev pub turn_number : Turn → ℕ
-turn_number one = 1
-turn_number two = 2
-turn_number three = 3
-
-abbrev pub number_turn : ℕ → Option Turn
-number_turn a = pick (a == 1) (some one) (pick (a == 2) (some two) (pick (a == 3) (some three) none))
 
 -- THE COMMIT RECORD: its kind, its turn, with what the house was opened (gap, hold, and how many legs, fares and bookings there may be), its clock, how many legs, fares and bookings the checkpoint has,
 -- and at which page of the ring the log begins

@@ -1,2 +1,4 @@
 pub mod Layout
 pub mod Bytes
+pub mod Kinds
+pub mod Sorts

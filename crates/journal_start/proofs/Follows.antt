@@ -14,11 +14,12 @@ use Rattle.journal.specs.Slots.{SlotsHold}
 use Rattle.journal.specs.Start as start
 use Rattle.journal_rows.specs.Layout.{house, slot_blocks, ring_blocks, rows, program}
 use Rattle.journal_rows.specs.Bytes.{page_bytes}
-use Rattle.journal_start.specs.declared.Found.{Found}
+use Rattle.journal_steps.specs.Steps.{journal_of}
+use Rattle.journal_steps.specs.declared.Journal.{Journal}
 use Rattle.journal_start.specs.declared.Stage.{Stage}
 use Rattle.journal_start.specs.declared.Stage.TheVariants.{Unread, OneCommit, Reading, Replaying, Ready}
 use Rattle.journal_start.specs.Starting.{MetHouse, Unfit}
-use Rattle.journal_start.specs.Stages.{journal_is, reading_of, Ranges, StageFits, taken, At}
+use Rattle.journal_start.specs.Stages.{reading_of, Ranges, StageFits, taken, At}
 use Rattle.journal_start.proofs.Accepts.{accepts_houses}
 use Rattle.journal_start.proofs.Steps.{ring_any}
 
@@ -38,9 +39,9 @@ begins d m e = (record { ranges = tt; holds = e }, tt)
 pub open_still : (m : Memory) (s : Stage) → Ranges m.limits s → start.OpenStill (house (stage m)) (slot_blocks (stage m)) (ring_blocks (stage m)) (rows (stage m) page_bytes) (reading_of (stage m) s (store.house m))
 open_still m Unread r = tt
 open_still m (OneCommit o) r = tt
-open_still m (Reading x c n) r = r.more
-open_still m (Replaying x c n) r = subst (λ k. n < 16 * k) (ring_any m.limits whole stage_calls) r.more
-open_still m (Ready f) r = tt
+open_still m (Reading u n) r = r.more
+open_still m (Replaying u n) r = subst (λ k. n < 16 * k) (ring_any m.limits whole stage_calls) r.more
+open_still m (Ready j) r = tt
 
 -- with the page that it asked for it has met what the chip has
 pub goes_on : (d : Chip) (m n : Memory) (s t : Stage) (p : Page) → Sound m → StageFits m s → Lent m n → p ≡ asked d m s → At m n t (taken (stage m) (reading_of (stage m) s (store.house m)) p) → Follows d m s → Follows d n t
@@ -57,5 +58,5 @@ not_refused d h m s p ok fits hold e met bad =
     (accepts_houses (stage m) ok.limits).fit d h hold (reading_of (stage m) s (store.house m)) met (open_still m s fits.ranges) (subst (Unfit (stage m) (reading_of (stage m) s (store.house m))) e bad)
 
 -- and when all is read, memory and what was found are the program's start
-pub comes_to : (d : Chip) (m : Memory) (f : Found) → Follows d m (Ready f) → journal_is (stage m) f (store.house m) ≡ (program page_bytes (stage m)).start d
-comes_to d m f met = met
+pub comes_to : (d : Chip) (m : Memory) (j : Journal) → Follows d m (Ready j) → journal_of (stage m) j (store.house m) ≡ (program page_bytes (stage m)).start d
+comes_to d m j met = met

@@ -18,23 +18,20 @@ use Rattle.store.specs.declared.Memory.{Memory}
 use Rattle.seating.specs.Serving.{First, NoneBelow}
 use Rattle.seating.proofs.Turns.{none_served, served_idle}
 use Rattle.every_call.specs.Stage.{Idle, stage, stage_calls}
-use Rattle.flash.specs.declared.PageRead.{PageRead}
-use Rattle.flash.specs.declared.PageRead.TheVariants as read
-use Rattle.flash.specs.Pages.{page_told}
-use Rattle.journal.specs.declared.Turn.TheVariants as turn
 use Rattle.journal.specs.Slots.{later, Commit, acted_page, commit_of}
 use Rattle.journal.specs.Start as start
 use Rattle.journal_rows.specs.Layout.{taken_call, Good, Head, house, opened, pages, most_pages, slot_blocks, ring_blocks, rows}
 use Rattle.journal_rows.specs.Bytes.{unrow, page_bytes}
 use Rattle.journal_rows.proofs.ReadBack.{reads_back}
-use Rattle.journal_house.proofs.Laws.{room_is}
 use Rattle.journal_load.specs.declared.CommitRecord.{CommitRecord}
 use Rattle.journal_load.specs.Pages.{commit_told, head_of, Within, Loads, NoPage}
-use Rattle.journal_start.specs.declared.Found.{Found}
+use Rattle.journal_start.specs.declared.InUse.{InUse}
 use Rattle.journal_start.specs.declared.Stage.{Stage}
 use Rattle.journal_start.specs.declared.Stage.TheVariants.{OneCommit, Reading, Replaying, Ready}
 use Rattle.journal_start.specs.Starting.{NoCheckpoint, chosen_slot}
-use Rattle.journal_start.specs.Stages.{ends, journal_is, reading_of, ring_pages, InRing, Ranges, Past, taken, checkpoint_on, log_on, found_log, At}
+use Rattle.journal_steps.specs.Steps.{Fits, Unused, journal_of}
+use Rattle.journal_steps.specs.declared.Journal.{Journal}
+use Rattle.journal_start.specs.Stages.{reading_of, ring_pages, Ranges, Past, taken, checkpoint_on, log_on, found_log, At}
 
 -- how many pages the ring has, whatever calls can be done
 pub ring_any : (l : Limits) (a b : ℕ → Bool) → ring_blocks (limits_mean a l) ≡ ring_blocks (limits_mean b l)
@@ -53,10 +50,10 @@ pub few_pages : (l : Limits) (c : CommitRecord) → Within l c → pages (head_o
 few_pages l c w = let a = w.legs in let b = w.fares in let d = w.bookings in omega arith
 
 -- what was found, in range
-pub found_ranges : (l : Limits) (c : CommitRecord) (f : Found) (x : Bool) (n : ℕ) → Within l c → n ≤ ring_pages l → ((k : calls.Limits) (h : House) → journal_is k f h ≡ found_log k x c n h) → InRing l f
-found_ranges l c f x n w a e =
+pub found_ranges : (l : Limits) (u : InUse) (j : Journal) (n : ℕ) → Within l u.commit → n ≤ ring_pages l → ((k : calls.Limits) (h : House) → journal_of k j h ≡ found_log k u n h) → Fits l j
+found_ranges l u f n w a e =
     let q = e (limits_mean whole l) (new_house (limits_mean whole l)) in
-    let p = few_pages l c w in
+    let p = few_pages l u.commit w in
     let i = ap (λ j. j.kept) q in let j = ap (λ j. j.begins) q in let k = ap (λ j. j.used) q in
     record { pages = omega arith; begins = rw j w.begins; used = omega arith }
 
@@ -75,99 +72,84 @@ none_waits l h k g f =
 pub loads_acts : (l : calls.Limits) (h g : House) (p : Page) (bs : List ℕ) → p ≡ has bs → Loads bs h g → acted_page (house l) (rows l page_bytes) h p ≡ g
 loads_acts l h g p bs e w = rw (e, w.says) (sym (w.done l))
 
-module _ (l : calls.Limits) (x : Bool) (c : CommitRecord) where
-  -- when all of a checkpoint is read, the log comes next
-  checkpoint_ends : (n : ℕ) (h : House) → pages (head_of c) ≤ n → checkpoint_on l x c n h ≡ log_on l x c 0 h
-  checkpoint_ends n h a = rw (le-ltb n (pages (head_of c)) a)
+-- when all of a checkpoint is read, the log comes next
+checkpoint_ends : (l : calls.Limits) (u : InUse) (n : ℕ) (h : House) → pages (head_of u.commit) ≤ n → checkpoint_on l u n h ≡ log_on l u 0 h
+checkpoint_ends l u n h a = rw (le-ltb n (pages (head_of u.commit)) a)
 
 -- a stage past the checkpoint
-pub past_at : (m n : Memory) (k : Limits) (t : Stage) (x : Bool) (c : CommitRecord) (i : ℕ) (v : start.Reading (house (stage m)) (rows (stage m) page_bytes)) →
-    k ≡ n.limits → Lent m n → ((can : ℕ → Bool) (h : House) → reading_of (limits_mean can k) t h ≡ log_on (limits_mean can k) x c i h) → Ranges k t → Past t → Idle n →
-    log_on (stage m) x c i (store.house n) ≡ v → At m n t v
-past_at m n k t x c i v e lent q r p idle z =
+pub past_at : (m n : Memory) (k : Limits) (t : Stage) (u : InUse) (i : ℕ) (v : start.Reading (house (stage m)) (rows (stage m) page_bytes)) →
+    k ≡ n.limits → Lent m n → ((can : ℕ → Bool) (h : House) → reading_of (limits_mean can k) t h ≡ log_on (limits_mean can k) u i h) → Ranges k t → Past t → Idle n →
+    log_on (stage m) u i (store.house n) ≡ v → At m n t v
+past_at m n k t u i v e lent q r p idle z =
     let f : k ≡ m.limits = e ∙ lent.limits in
     record {
-      reading = subst (λ (o : Limits). reading_of (limits_mean stage_calls o) t (store.house n) ≡ log_on (limits_mean stage_calls o) x c i (store.house n)) f (q stage_calls (store.house n)) ∙ z;
+      reading = subst (λ (o : Limits). reading_of (limits_mean stage_calls o) t (store.house n) ≡ log_on (limits_mean stage_calls o) u i (store.house n)) f (q stage_calls (store.house n)) ∙ z;
       fits = record { ranges = subst (λ (o : Limits). Ranges o t) e r; holds = p n idle };
     }
 
 -- a checkpoint without a page
-pub none_kept : (m n : Memory) (x : Bool) (c : CommitRecord) → store.house m ≡ new_house (stage m) → store.house n ≡ at_tick (store.house m) c.clock → pages (head_of c) ≤ 0 →
-    Idle n × (log_on (stage m) x c 0 (store.house n) ≡ checkpoint_on (stage m) x c 0 (opened (stage m) (head_of c)))
+pub none_kept : (m n : Memory) (u : InUse) → store.house m ≡ new_house (stage m) → store.house n ≡ at_tick (store.house m) u.commit.clock → pages (head_of u.commit) ≤ 0 →
+    Idle n × (log_on (stage m) u 0 (store.house n) ≡ checkpoint_on (stage m) u 0 (opened (stage m) (head_of u.commit)))
 unfolding some_could
-none_kept m n x c e f a =
-    let g : store.house n ≡ opened (stage m) (head_of c) = f ∙ ap (λ h. at_tick h c.clock) e in
-    (subst (λ (h : House). some_could h h.bookings ≡ false) (sym g) refl, ap (log_on (stage m) x c 0) g ∙ sym (checkpoint_ends (stage m) x c 0 (opened (stage m) (head_of c)) a))
+none_kept m n u e f a =
+    let g : store.house n ≡ opened (stage m) (head_of u.commit) = f ∙ ap (λ h. at_tick h u.commit.clock) e in
+    (subst (λ (h : House). some_could h h.bookings ≡ false) (sym g) refl, ap (log_on (stage m) u 0) g ∙ sym (checkpoint_ends (stage m) u 0 (opened (stage m) (head_of u.commit)) a))
 
 -- a chip that was never used
-abbrev never : Found
-never = record { committed = false; second = true; turn = turn.Three; pages = 0; begins = 0; used = 0 }
-
-none_chosen : (l : calls.Limits) (o q : plain.Option (Commit Head)) → plain.Option.none ≡ chosen_slot o q → (h : House) → h ≡ new_house l →
-    start.Reading.ready (journal_is l never h) ≡ start.chosen (house l) (slot_blocks l) (ring_blocks l) (rows l page_bytes) o q
-none_chosen l plain.Option.none plain.Option.none e h z = rw z
-none_chosen l plain.Option.none (plain.Option.some t) e h z = let y : ◌≡◌ {A = ℕ} 0 1 = cc in absurd (omega arith)
-none_chosen l (plain.Option.some s) plain.Option.none e h z = let y : ◌≡◌ {A = ℕ} 0 1 = cc in absurd (omega arith)
-none_chosen l (plain.Option.some s) (plain.Option.some t) e0 h z = absurd (go (later t.turn s.turn) e0)
+none_chosen : (j : Journal) → Unused j → (l : calls.Limits) (o q : plain.Option (Commit Head)) → plain.Option.none ≡ chosen_slot o q → (h : House) → h ≡ new_house l →
+    start.Reading.ready (journal_of l j h) ≡ start.chosen (house l) (slot_blocks l) (ring_blocks l) (rows l page_bytes) o q
+none_chosen j v l plain.Option.none plain.Option.none e h z = rw z (ap start.Reading.ready (v.is l))
+none_chosen j v l plain.Option.none (plain.Option.some t) e h z = let y : ◌≡◌ {A = ℕ} 0 1 = cc in absurd (omega arith)
+none_chosen j v l (plain.Option.some s) plain.Option.none e h z = let y : ◌≡◌ {A = ℕ} 0 1 = cc in absurd (omega arith)
+none_chosen j v l (plain.Option.some s) (plain.Option.some t) e0 h z = absurd (go (later t.turn s.turn) e0)
   where
     go : (b : Bool) → plain.Option.none ≡ pick {A = plain.Option (Bool × Commit Head)} b (plain.Option.some (true, t)) (plain.Option.some (false, s)) → ⊥
     go true e = let y : ◌≡◌ {A = ℕ} 0 1 = cc in omega arith
     go false e = let y : ◌≡◌ {A = ℕ} 0 1 = cc in omega arith
 
-pub never_at : (m : Memory) (k : Limits) (o q : Option CommitRecord) (p : Page) → k ≡ m.limits → store.house m ≡ new_house (stage m) →
+pub never_at : (j : Journal) → Unused j → (m : Memory) (k : Limits) (o q : Option CommitRecord) (p : Page) → k ≡ m.limits → store.house m ≡ new_house (stage m) →
     ((can : ℕ → Bool) → commit_told q ≡ commit_of (house (limits_mean can k)) (rows (limits_mean can k) page_bytes) p) → plain.Option.none ≡ chosen_slot (commit_told o) (commit_told q) →
-    At m m (Ready never) (taken (stage m) (reading_of (stage m) (OneCommit o) (store.house m)) p)
+    At m m (Ready j) (taken (stage m) (reading_of (stage m) (OneCommit o) (store.house m)) p)
 unfolding some_could
-never_at m k o q p e z f w =
+never_at j v m k o q p e z f w =
     let g : commit_told q ≡ commit_of (house (stage m)) (rows (stage m) page_bytes) p = subst (λ (l : Limits). commit_told q ≡ commit_of (house (limits_mean stage_calls l)) (rows (limits_mean stage_calls l) page_bytes) p) e (f stage_calls) in
-    let r = (room_is (limits_mean whole m.limits)).1 in
     record {
-      reading = none_chosen (stage m) (commit_told o) (commit_told q) w (store.house m) z ∙ ap (start.chosen (house (stage m)) (slot_blocks (stage m)) (ring_blocks (stage m)) (rows (stage m) page_bytes) (commit_told o)) g;
-      fits = record { ranges = record { pages = omega arith; begins = omega arith; used = omega arith }; holds = subst (λ (h : House). some_could h h.bookings ≡ false) (sym z) refl };
+      reading = none_chosen j v (stage m) (commit_told o) (commit_told q) w (store.house m) z ∙ ap (start.chosen (house (stage m)) (slot_blocks (stage m)) (ring_blocks (stage m)) (rows (stage m) page_bytes) (commit_told o)) g;
+      fits = record { ranges = v.fits m.limits; holds = subst (λ (h : House). some_could h h.bookings ≡ false) (sym z) refl };
     }
 
-module _ (m n : Memory) (x : Bool) (c : CommitRecord) (i : ℕ) (p : Page) (bs : List ℕ) (e : p ≡ has bs) where
+module _ (m n : Memory) (u : InUse) (i : ℕ) (p : Page) (bs : List ℕ) (e : p ≡ has bs) where
   -- a page that can't be one of the checkpoint
-  pub page_refused : NoPage c i bs → NoCheckpoint (stage m) (head_of c) i (store.house m) p
+  pub page_refused : NoPage u.commit i bs → NoCheckpoint (stage m) (head_of u.commit) i (store.house m) p
   page_refused w was good q z last = w (stage m) was good q (let y = sym e ∙ z in cc) reads_back
 
   -- a checkpoint that is read to its end
-  module _ (a : pages (head_of c) ≤ i + 1) (b : i < pages (head_of c)) (w : Loads bs (store.house m) (store.house n)) where
-    pub whole_refused : (k : ℕ) → First (store.house n) k → NoCheckpoint (stage m) (head_of c) i (store.house m) p
+  module _ (a : pages (head_of u.commit) ≤ i + 1) (b : i < pages (head_of u.commit)) (w : Loads bs (store.house m) (store.house n)) where
+    pub whole_refused : (k : ℕ) → First (store.house n) k → NoCheckpoint (stage m) (head_of u.commit) i (store.house m) p
     whole_refused k f was good q z last =
         let y : store.house n ≡ was = sym (loads_acts (stage m) (store.house m) (store.house n) p bs e w) ∙ last (omega arith) in
         none_waits (stage m) was k good (subst (λ (h : House). First h k) y f)
 
-    pub whole_on : log_on (stage m) x c 0 (store.house n) ≡ taken (stage m) (reading_of (stage m) (Reading x c i) (store.house m)) p
+    pub whole_on : log_on (stage m) u 0 (store.house n) ≡ taken (stage m) (reading_of (stage m) (Reading u i) (store.house m)) p
     whole_on =
-        sym (checkpoint_ends (stage m) x c (suc i) (store.house n) (omega arith)) ∙ ap (checkpoint_on (stage m) x c (suc i)) (sym (loads_acts (stage m) (store.house m) (store.house n) p bs e w))
+        sym (checkpoint_ends (stage m) u (suc i) (store.house n) (omega arith)) ∙ ap (checkpoint_on (stage m) u (suc i)) (sym (loads_acts (stage m) (store.house m) (store.house n) p bs e w))
 
--- pages of the log: a blank one, and one that is spoilt
-pub is_end : (p : PageRead) → ends p ≡ true → page_told p ≡ blank
-is_end read.Blank e = refl
-is_end (read.Written bytes) e = absurd (both_ways false refl e)
-is_end read.Spoilt e = absurd (both_ways false refl e)
-
-pub is_spoilt : (p : PageRead) → ends p ≡ false → ((x : Bor (List ℕ)) → p ≡ read.Written x → ⊥) → page_told p ≡ spoilt
-is_spoilt read.Blank e f = absurd (both_ways true e refl)
-is_spoilt (read.Written bytes) e f = absurd (f bytes refl)
-is_spoilt read.Spoilt e f = refl
-
-module _ (m : Memory) (x : Bool) (c : CommitRecord) (i : ℕ) (p : Page) where
+-- pages of the log: a blank one, one that is spoilt, and a call
+module _ (m : Memory) (u : InUse) (i : ℕ) (p : Page) where
   abbrev so : start.Reading (house (stage m)) (rows (stage m) page_bytes)
-  so = taken (stage m) (reading_of (stage m) (Replaying x c i) (store.house m)) p
+  so = taken (stage m) (reading_of (stage m) (Replaying u i) (store.house m)) p
 
-  pub blank_ends : (f : Found) → p ≡ blank → Within m.limits c → i < ring_pages m.limits → Idle m → ((k : calls.Limits) (h : House) → journal_is k f h ≡ found_log k x c i h) → At m m (Ready f) so
+  pub blank_ends : (f : Journal) → p ≡ blank → Within m.limits u.commit → i < ring_pages m.limits → Idle m → ((k : calls.Limits) (h : House) → journal_of k f h ≡ found_log k u i h) → At m m (Ready f) so
   unfolding is_blank
   blank_ends f e w a idle q = record {
     reading = ap start.Reading.ready (q (stage m) (store.house m)) ∙ (rw e);
-    fits = record { ranges = found_ranges m.limits c f x i w (omega arith) q; holds = idle };
+    fits = record { ranges = found_ranges m.limits u f i w (omega arith) q; holds = idle };
   }
 
-  pub spoilt_passes : p ≡ spoilt → log_on (stage m) x c (i + 1) (store.house m) ≡ so
+  pub spoilt_passes : p ≡ spoilt → log_on (stage m) u (i + 1) (store.house m) ≡ so
   unfolding is_blank
   spoilt_passes e = rw (e, add-one)
 
-  pub call_done : (n : Memory) (bs : List ℕ) (y : Call) → p ≡ has bs → unrow bs ≡ plain.Option.some (taken_call y) → store.house n ≡ after (stage m) (store.house m) y → log_on (stage m) x c (i + 1) (store.house n) ≡ so
+  pub call_done : (n : Memory) (bs : List ℕ) (y : Call) → p ≡ has bs → unrow bs ≡ plain.Option.some (taken_call y) → store.house n ≡ after (stage m) (store.house m) y → log_on (stage m) u (i + 1) (store.house n) ≡ so
   unfolding is_blank
   call_done n bs y e u d = rw (e, u, add-one, d)

@@ -7,7 +7,8 @@ use Rattle.meaning.specs.Calls.{Call, Answer}
 use Rattle.limits.specs.Opening.{limits_mean}
 use Rattle.limits.specs.declared.Limits.{Limits}
 use Rattle.journal.specs.declared.Turn.{Turn}
-use Rattle.journal.specs.Codes.{turn_of}
+use Rattle.journal.specs.declared.Slot.{Slot}
+use Rattle.journal.specs.Codes.{turn_of, is_second}
 use Rattle.journal.specs.Slots as slots
 use Rattle.journal.specs.Slots.{around, up, with_page, with_checkpoint}
 use Rattle.journal.specs.Plan.{logging, erasing, opening}
@@ -29,14 +30,14 @@ same_place can l j p e = e ∙ ap (λ (r : ℕ). around (16 * r) (j.begins + j.u
 
 -- one page more in the log
 pub logged : (l : Limits) (n : ℕ) (j : Journal) (p : ℕ) → log_has_room j ≡ true → p ≡ log_place l j →
-    Advanced l n j (record { committed = j.committed; second = j.second; turn = j.turn; pages = j.pages; begins = j.begins; used = j.used + 1 }) (work.Logging p)
+    Advanced l n j (record { committed = j.committed; slot = j.slot; turn = j.turn; pages = j.pages; begins = j.begins; used = j.used + 1 }) (work.Logging p)
 logged l n j p e q = record {
   journal = λ can g h k.
       let m : meaning.Limits = limits_mean can l in
       let s : slots.Journal (house m) = journal_of m j g in
       let x : slots.Journal (house m) = with_page (house m) (slot_blocks m) (ring_blocks m) (rows m page_bytes) s h in
       let y : slots.Journal (house m) = with_checkpoint (house m) (slot_blocks m) (ring_blocks m) (rows m page_bytes) s h in
-      ap (λ (u : ℕ). record { committed = j.committed; slot = j.second; turn = turn_of j.turn; kept = j.pages; begins = j.begins; used = u; state = h }) (add-one j.used) ∙ ap (λ (t : Bool). pick t x y) (sym e);
+      ap (λ (u : ℕ). record { committed = j.committed; slot = is_second j.slot; turn = turn_of j.turn; kept = j.pages; begins = j.begins; used = u; state = h }) (add-one j.used) ∙ ap (λ (t : Bool). pick t x y) (sym e);
   work = λ can g c a.
       ap (λ (k : ℕ). logging k c a) (same_place can l j p q)
       ∙ ap (λ (t : Bool). pick t (logging (around (16 * ring_blocks (limits_mean can l)) (j.begins + j.used)) c a) (pick j.committed (erasing a) (opening a))) (sym e);
@@ -47,17 +48,17 @@ begins_so true c a = refl
 begins_so false c a = refl
 
 -- a checkpoint in the other slot
-pub checkpointed : (l : Limits) (n : ℕ) (j : Journal) (p : ℕ) (t : Turn) (w : Work) → log_has_room j ≡ false → p ≡ log_place l j → turn_of t ≡ up (turn_of j.turn) → w ≡ pick j.committed work.Erasing work.Opening →
-    Advanced l n j (record { committed = true; second = not j.second; turn = t; pages = n; begins = p; used = 0 }) w
-checkpointed l n j p t w e q v z = record {
+pub checkpointed : (l : Limits) (n : ℕ) (j : Journal) (p : ℕ) (x : Slot) (t : Turn) (w : Work) → log_has_room j ≡ false → p ≡ log_place l j → is_second x ≡ not (is_second j.slot) → turn_of t ≡ up (turn_of j.turn) → w ≡ pick j.committed work.Erasing work.Opening →
+    Advanced l n j (record { committed = true; slot = x; turn = t; pages = n; begins = p; used = 0 }) w
+checkpointed l n j p x t w e q o v z = record {
   journal = λ can g h k.
       let m : meaning.Limits = limits_mean can l in
       let s : slots.Journal (house m) = journal_of m j g in
-      let x : slots.Journal (house m) = with_page (house m) (slot_blocks m) (ring_blocks m) (rows m page_bytes) s h in
-      let y : slots.Journal (house m) = with_checkpoint (house m) (slot_blocks m) (ring_blocks m) (rows m page_bytes) s h in
-      ap (λ (u : slots.Turn). made m (not j.second) u n p h) v
-      ∙ ap₂ (λ (i b : ℕ). made m (not j.second) (up (turn_of j.turn)) i b h) (sym k ∙ sym (pages_many m h)) (same_place can l j p q)
-      ∙ ap (λ (b : Bool). pick b x y) (sym e);
+      let logs : slots.Journal (house m) = with_page (house m) (slot_blocks m) (ring_blocks m) (rows m page_bytes) s h in
+      let fills : slots.Journal (house m) = with_checkpoint (house m) (slot_blocks m) (ring_blocks m) (rows m page_bytes) s h in
+      ap₂ (λ (b : Bool) (u : slots.Turn). made m b u n p h) o v
+      ∙ ap₂ (λ (i b : ℕ). made m (not (is_second j.slot)) (up (turn_of j.turn)) i b h) (sym k ∙ sym (pages_many m h)) (same_place can l j p q)
+      ∙ ap (λ (b : Bool). pick b logs fills) (sym e);
   work = λ can g c a.
       ap (λ (x : Work). work_of x c a) z ∙ begins_so j.committed c a
       ∙ ap (λ (b : Bool). pick b (logging (around (16 * ring_blocks (limits_mean can l)) (j.begins + j.used)) c a) (pick j.committed (erasing a) (opening a))) (sym e);

@@ -9,7 +9,7 @@ use Rattle.journal.specs.Acts.{write, wipe, say}
 use Rattle.meaning.specs.Promise.{room_for, whole}
 use Rattle.limits.specs.Opening.{limits_mean}
 use Rattle.limits.specs.declared.Limits.{Limits}
-use Rattle.journal.specs.Codes.{turn_of}
+use Rattle.journal.specs.Codes.{turn_of, is_second}
 use Rattle.journal.specs.Slots as slots
 use Rattle.journal.specs.Slots.{around, longest, has_room, never_used, with_page, with_checkpoint}
 use Rattle.journal.specs.Plan as plans
@@ -42,7 +42,7 @@ log_has_room j = j.committed && nat_lt j.used (longest j.pages)
 
 -- THE JOURNAL that the code's is, with this house
 abbrev pub journal_of : (l : meaning.Limits) → Journal → houses.House → slots.Journal (house l)
-journal_of l j h = record { committed = j.committed; slot = j.second; turn = turn_of j.turn; kept = j.pages; begins = j.begins; used = j.used; state = h }
+journal_of l j h = record { committed = j.committed; slot = is_second j.slot; turn = turn_of j.turn; kept = j.pages; begins = j.begins; used = j.used; state = h }
 
 -- THE WORK that the code's is, for this call and answer
 abbrev pub work_of : Work → Call → Answer → plans.Work Call Answer

@@ -6,14 +6,11 @@
 #![tactic(auto)]
 
 ghost use Rattle.std.specs.Prelude.{◌≡◌, ℕ, ◌+◌, ◌*◌, ◌<◌, ◌≤◌, Bool};
-ghost use Rattle.limits.specs.Opening.{InRange, limits_mean};
-ghost use Rattle.journal.specs.Slots.{first};
-ghost use Rattle.journal_rows.specs.Layout.{most_pages, ring_blocks, slot_blocks};
+ghost use Rattle.journal_rows.specs.Layout.{most_pages, ring_blocks};
 ghost use Rattle.journal_steps.specs.Steps.{ActFits, Advanced, Fits, Gives, Unused, WorkFits, chip_limits, log_has_room, log_place};
 
-use journal::{Turn, block_after, goes_round, longest_log};
-use journal_rows::{ring_blocks, slot_blocks};
-use limits::Limits;
+use journal::{Slot, Turn, block_after, goes_round, longest_log};
+use journal_rows::Layout;
 
 // Pages of a block.
 const BLOCK: u32 = 16;
@@ -22,9 +19,10 @@ const BLOCK: u32 = 16;
 #[derive(Clone, Copy)]
 pub struct Journal {
     // Is there a commit record yet? If not, the first change writes a checkpoint into the first slot.
+    // Kept: the first checkpoint counts on from the other fields too, so an Option would repeat them.
     pub committed: bool,
-    // Is the second slot in use, or the first?
-    pub second: bool,
+    // The slot in use.
+    pub slot: Slot,
     pub turn: Turn,
     // Pages of the checkpoint beside its commit record.
     pub pages: u32,
@@ -75,29 +73,29 @@ pub struct Next {
 }
 
 // The call is written at a place of the ring.
-fn write_call(limits: &Limits, place: u32) -> Next
-    requires { (InRange limits.now) × (place < 16 * ring_blocks (chip_limits limits.now)) }
-    ensures { (j : Journal) (n : ℕ) → Gives limits.now j n (Work.LoggingNow place) result.act result.work × WorkFits limits.now n result.work × ((w : Work) → ActFits limits.now n w result.act) }
+fn write_call(layout: &Layout, place: u32) -> Next
+    requires { place < 16 * ring_blocks (chip_limits layout.now.limits) }
+    ensures { (j : Journal) (n : ℕ) → Gives layout.now.limits j n (Work.LoggingNow place) result.act result.work × WorkFits layout.now.limits n result.work × ((w : Work) → ActFits layout.now.limits n w result.act) }
 {
     Next {
         act: Act::WriteCall {
-            page: BLOCK * (2 * slot_blocks(limits)) + place,
+            page: BLOCK * (2 * layout.slot_blocks()) + place,
         },
         work: Work::Answering,
     }
 }
 
 // Before a page of the log that begins a block, the block after it is erased.
-fn log_ahead(limits: &Limits, place: u32) -> Next
-    requires { (InRange limits.now) × (place < 16 * ring_blocks (chip_limits limits.now)) }
-    ensures { (j : Journal) (n : ℕ) → Gives limits.now j n (Work.Logging place) result.act result.work × WorkFits limits.now n result.work × ((w : Work) → ActFits limits.now n w result.act) }
+fn log_ahead(layout: &Layout, place: u32) -> Next
+    requires { place < 16 * ring_blocks (chip_limits layout.now.limits) }
+    ensures { (j : Journal) (n : ℕ) → Gives layout.now.limits j n (Work.Logging place) result.act result.work × WorkFits layout.now.limits n result.work × ((w : Work) → ActFits layout.now.limits n w result.act) }
 {
     if place % BLOCK != 0 {
-        return write_call(limits, place);
+        return write_call(layout, place);
     }
     Next {
         act: Act::Erase {
-            block: block_after(slot_blocks(limits), ring_blocks(limits), place),
+            block: block_after(layout.slot_blocks(), layout.ring_blocks(), place),
         },
         work: Work::LoggingNow { place },
     }
@@ -110,7 +108,7 @@ impl Journal {
     {
         Journal {
             committed: false,
-            second: true,
+            slot: Slot::Second,
             turn: Turn::Three,
             pages: 0,
             begins: 0,
@@ -118,23 +116,13 @@ impl Journal {
         }
     }
 
-    // The first block of the slot in use.
-    fn slot(&self, limits: &Limits) -> u32
-        requires { InRange limits.now }
-        ensures slot { (can : ℕ → Bool) → result ≡ first (slot_blocks (limits_mean can limits.now)) self.now.second }
-        ensures few { result < 200000 }
-    {
-        if self.second { slot_blocks(limits) } else { 0 }
-    }
-
     // The place of the ring at which the log ends: that of its next page.
-    fn place(&self, limits: &Limits) -> u32
-        requires range { InRange limits.now }
-        requires fits { Fits limits.now self.now }
-        ensures place { result ≡ log_place limits.now self.now }
-        ensures within { result < 16 * ring_blocks (chip_limits limits.now) }
+    fn place(&self, layout: &Layout) -> u32
+        requires { Fits layout.now.limits self.now }
+        ensures place { result ≡ log_place layout.now.limits self.now }
+        ensures within { result < 16 * ring_blocks (chip_limits layout.now.limits) }
     {
-        goes_round(BLOCK * ring_blocks(limits), self.begins + self.used)
+        goes_round(BLOCK * layout.ring_blocks(), self.begins + self.used)
     }
 
     // Is there room for one more page in the log?
@@ -148,15 +136,14 @@ impl Journal {
     // A call changed the house, of which a checkpoint would have so many pages now: the log has one
     // page more, or where it has no room a checkpoint begins, into the other slot, and a new log where
     // the old one ends. Gives the work that is to be done for it.
-    pub fn advance(&mut self, limits: &Limits, pages: u32) -> Work
-        requires range { InRange limits.now }
-        requires fits { Fits limits.now self.old }
-        requires pages { pages ≤ most_pages (chip_limits limits.now) }
-        ensures advanced { Advanced limits.now pages self.old self.new result }
-        ensures fits { Fits limits.now self.new }
-        ensures work { WorkFits limits.now pages result }
+    pub fn advance(&mut self, layout: &Layout, pages: u32) -> Work
+        requires fits { Fits layout.now.limits self.old }
+        requires pages { pages ≤ most_pages (chip_limits layout.now.limits) }
+        ensures advanced { Advanced layout.now.limits pages self.old self.new result }
+        ensures fits { Fits layout.now.limits self.new }
+        ensures work { WorkFits layout.now.limits pages result }
     {
-        let place = self.place(limits);
+        let place = self.place(layout);
         if self.has_room() {
             self.used += 1;
             return Work::Logging { place };
@@ -167,7 +154,7 @@ impl Journal {
             Work::Opening
         };
         self.committed = true;
-        self.second = !self.second;
+        self.slot = self.slot.other();
         self.turn = self.turn.next();
         self.pages = pages;
         self.begins = place;
@@ -176,14 +163,14 @@ impl Journal {
     }
 
     // A page of the checkpoint is written into its slot.
-    fn write_page(&self, limits: &Limits, number: u32) -> Next
-        requires { (InRange limits.now) × (number < most_pages (chip_limits limits.now)) }
-        ensures gives { (n : ℕ) → number < n → Gives limits.now self.now n (Work.FillingNow number) result.act result.work }
-        ensures work { (n : ℕ) → number < n → WorkFits limits.now n result.work × ((w : Work) → ActFits limits.now n w result.act) }
+    fn write_page(&self, layout: &Layout, number: u32) -> Next
+        requires { number < most_pages (chip_limits layout.now.limits) }
+        ensures gives { (n : ℕ) → number < n → Gives layout.now.limits self.now n (Work.FillingNow number) result.act result.work }
+        ensures work { (n : ℕ) → number < n → WorkFits layout.now.limits n result.work × ((w : Work) → ActFits layout.now.limits n w result.act) }
     {
         Next {
             act: Act::WriteCheckpoint {
-                page: BLOCK * (self.slot(limits) + 1) + number,
+                page: BLOCK * (layout.first_block(self.slot) + 1) + number,
                 number,
             },
             work: Work::Filling { page: number + 1 },
@@ -192,26 +179,26 @@ impl Journal {
 
     // Before a page of the checkpoint that begins a block, that block is erased; behind the last page
     // comes the commit record.
-    fn fill_ahead(&self, limits: &Limits, pages: u32, number: u32) -> Next
-        requires { (InRange limits.now) × ((number ≤ pages) × (pages ≤ most_pages (chip_limits limits.now))) }
-        ensures gives { Gives limits.now self.now pages (Work.Filling number) result.act result.work }
-        ensures work { WorkFits limits.now pages result.work }
-        ensures act { (w : Work) → ActFits limits.now pages w result.act }
+    fn fill_ahead(&self, layout: &Layout, pages: u32, number: u32) -> Next
+        requires { (number ≤ pages) × (pages ≤ most_pages (chip_limits layout.now.limits)) }
+        ensures gives { Gives layout.now.limits self.now pages (Work.Filling number) result.act result.work }
+        ensures work { WorkFits layout.now.limits pages result.work }
+        ensures act { (w : Work) → ActFits layout.now.limits pages w result.act }
     {
         if number == pages {
             return Next {
                 act: Act::WriteCommit {
-                    page: BLOCK * self.slot(limits),
+                    page: BLOCK * layout.first_block(self.slot),
                 },
                 work: Work::Answering,
             };
         }
         if number % BLOCK != 0 {
-            return self.write_page(limits, number);
+            return self.write_page(layout, number);
         }
         Next {
             act: Act::Erase {
-                block: self.slot(limits) + 1 + number / BLOCK,
+                block: layout.first_block(self.slot) + 1 + number / BLOCK,
             },
             work: Work::FillingNow { page: number },
         }
@@ -219,13 +206,12 @@ impl Journal {
 
     // The act that comes next for some work, and what is left after it, where the checkpoint of the
     // house has so many pages.
-    pub fn next(&self, limits: &Limits, pages: u32, work: Work) -> Next
-        requires range { InRange limits.now }
-        requires pages { pages ≤ most_pages (chip_limits limits.now) }
-        requires work { WorkFits limits.now pages work }
-        ensures gives { Gives limits.now self.now pages work result.act result.work }
-        ensures work { WorkFits limits.now pages result.work }
-        ensures act { ActFits limits.now pages work result.act }
+    pub fn next(&self, layout: &Layout, pages: u32, work: Work) -> Next
+        requires pages { pages ≤ most_pages (chip_limits layout.now.limits) }
+        requires work { WorkFits layout.now.limits pages work }
+        ensures gives { Gives layout.now.limits self.now pages work result.act result.work }
+        ensures work { WorkFits layout.now.limits pages result.work }
+        ensures act { ActFits layout.now.limits pages work result.act }
     {
         match work {
             Work::Resting => Next {
@@ -236,28 +222,28 @@ impl Journal {
                 act: Act::Say,
                 work: Work::Resting,
             },
-            Work::Logging { place } => log_ahead(limits, place),
-            Work::LoggingNow { place } => write_call(limits, place),
+            Work::Logging { place } => log_ahead(layout, place),
+            Work::LoggingNow { place } => write_call(layout, place),
             Work::Opening => Next {
                 act: Act::Erase {
-                    block: 2 * slot_blocks(limits),
+                    block: 2 * layout.slot_blocks(),
                 },
                 work: Work::OpeningMore,
             },
             Work::OpeningMore => Next {
                 act: Act::Erase {
-                    block: 2 * slot_blocks(limits) + 1,
+                    block: 2 * layout.slot_blocks() + 1,
                 },
                 work: Work::Erasing,
             },
             Work::Erasing => Next {
                 act: Act::Erase {
-                    block: self.slot(limits),
+                    block: layout.first_block(self.slot),
                 },
                 work: Work::Filling { page: 0 },
             },
-            Work::Filling { page } => self.fill_ahead(limits, pages, page),
-            Work::FillingNow { page } => self.write_page(limits, page),
+            Work::Filling { page } => self.fill_ahead(layout, pages, page),
+            Work::FillingNow { page } => self.write_page(layout, page),
         }
     }
 }

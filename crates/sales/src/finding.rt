@@ -3,29 +3,14 @@ ghost use Rattle.std.specs.Prelude.{◌≡◌, ◌<◌, ◌||◌, ◌==◌, slic
 ghost use Rattle.wire.specs.Bytes.{numbers_in};
 ghost use Rattle.sales.specs.Finding.{fits_chip, limits_named, served};
 
-use journal_rows::{blocks_asked, slot_blocks};
+use journal_rows::{Layout, PageKind, word};
 use limits::Limits;
-use wire::leg_at;
-
-// The kind of a page that is a commit record.
-const COMMIT: u32 = 1;
-
-// Number i of the 128 that a page has, each of four bytes, the low byte first.
-fn word(page: &[u8; 512], i: usize) -> u32
-    requires { i < 128 }
-    ensures { result ≡ slice_index (numbers_in page.now) i }
-{
-    let Some(number) = leg_at(page, i) else {
-        unreachable()
-    };
-    number
-}
 
 // The limits that a page names, if it is a commit record.
 pub fn commit_limits(page: &[u8; 512]) -> Option<Limits>
     ensures { result ≡ limits_named (numbers_in page.now) }
 {
-    if word(page, 0) != COMMIT {
+    if word(page, 0) != u32::from(PageKind::Commit) {
         return None;
     }
     Some(Limits {
@@ -60,8 +45,9 @@ pub fn fits(limits: &Limits, block: u32, blocks: u32) -> bool
     if !are_served(limits) {
         return false;
     }
-    if blocks_asked(limits) != blocks {
+    let layout = Layout::new(*limits);
+    if layout.blocks() != blocks {
         return false;
     }
-    begins_slot(block, slot_blocks(limits))
+    begins_slot(block, layout.slot_blocks())
 }

@@ -14,9 +14,9 @@ mod finding;
 mod lines;
 
 use chips::MemoryChip;
-use driver::{Device, PageState, take_up};
+use driver::{Device, take_up};
 use finding::{commit_limits, fits};
-use flash::Power;
+use flash::{PageState, Power};
 use limits::Limits;
 use lines::leg_line;
 use std::process::ExitCode;

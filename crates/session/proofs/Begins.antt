@@ -5,6 +5,7 @@ use Rattle.meaning.specs.Lines.{pick}
 use Rattle.meaning.specs.House.{House}
 use Rattle.meaning.specs.Calls as meaning
 use Rattle.meaning.specs.Calls.{Call, Answer, after, answer, call_number, good_fields, turned}
+use Rattle.journal.specs.Codes.{is_second}
 use Rattle.journal.specs.Acts.{say}
 use Rattle.wire.specs.Bytes.{Bytes}
 use Rattle.wire.specs.Rows.{encoded, decoded}
@@ -57,7 +58,7 @@ module _ (l : meaning.Limits) (j : Journal) (g h : House) (c : Call) (leaves : h
   same_acts a d e q =
       ap (λ (x : Answer). say x ∷ []) q
       ∙ ap (λ (t : Bool). pick t (pick room (slots.logs (house l) (slot_blocks l) (ring_blocks l) (rows l page_bytes) (place (house l) (slot_blocks l) (ring_blocks l) (rows l page_bytes) before) (page_bytes.row (taken_call c)))
-      (slots.opens (house l) (slot_blocks l) (ring_blocks l) (rows l page_bytes) j.committed ++ slots.checkpoints (house l) (slot_blocks l) (ring_blocks l) (rows l page_bytes) (not j.second) (slots.up before.turn) (after l g c) (place (house l) (slot_blocks l) (ring_blocks l) (rows l page_bytes) before))) []
+      (slots.opens (house l) (slot_blocks l) (ring_blocks l) (rows l page_bytes) j.committed ++ slots.checkpoints (house l) (slot_blocks l) (ring_blocks l) (rows l page_bytes) (not (is_second j.slot)) (slots.up before.turn) (after l g c) (place (house l) (slot_blocks l) (ring_blocks l) (rows l page_bytes) before))) []
       ++ (say (answer l g c) ∷ [])) (sym e)
 
   -- A CHANGE: the log has one page more, or a checkpoint begins

@@ -23,7 +23,7 @@ ghost use Rattle.session.specs.Acts.{Begun, Changed, Ready, Stepped, Woken, at_r
 use calls::answer_row;
 use every_call::EveryCall;
 use journal_fill::{fill_call, fill_checkpoint, fill_commit};
-use journal_rows::checkpoint_pages;
+use journal_rows::{Layout, checkpoint_pages};
 use journal_steps::{Act, Journal, Work};
 use limits::{Limits, Sizes};
 use protocol::Answer;
@@ -171,8 +171,8 @@ impl Session {
         }
         keep_call(&mut self.call, row);
         self.length = row.len();
-        let limits = m.limits();
-        self.work = self.journal.advance(&limits, pages_now(m));
+        let layout = Layout::new(m.limits());
+        self.work = self.journal.advance(&layout, pages_now(m));
         true
     }
 
@@ -213,8 +213,8 @@ impl Session {
         requires { Ready self.old m.now }
         ensures { Stepped self.old self.new m.now page.old page.new out.old out.new result }
     {
-        let limits = m.limits();
-        let next = self.journal.next(&limits, pages_now(m), self.work);
+        let layout = Layout::new(m.limits());
+        let next = self.journal.next(&layout, pages_now(m), self.work);
         self.work = next.work;
         match next.act {
             Act::Rest => Effect::Rest,

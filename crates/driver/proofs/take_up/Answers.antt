@@ -18,16 +18,16 @@ pub read-state-requires : goal.read-state-requires
 read-state-requires g c =
     let m = c.loop-number.m in
     let i = c.loop-number.invariant in
-    let w = subst (λ (l : Limits). Wanted l c.loop-number.start c.in-Some.number) (c.limits-limits.ensures ∙ sym i.2.limits) c.in-Some.ensures in
+    let w = subst (λ (l : Limits). Wanted l c.loop-number.start c.in-Some.number) (c.new-layout.ensures ∙ c.limits.ensures ∙ sym i.2.limits) c.in-Some.ensures in
     on_chip (g.D.Device.chip c.args.device.now) m c.loop-number.start c.in-Some.number i.0 i.1 i.3 w _ (subst (λ (l : Limits). room_for (chip_limits l) ≤ g.D.Device.blocks c.args.device.now) (sym i.2.limits) c.requires.size)
 
-pub returns-then-not-take_page : goal.returns-then-not-take_page
-returns-then-not-take_page g c =
+pub returns-in_default-take_page : goal.returns-in_default-take_page
+returns-in_default-take_page g c =
     let m = c.loop-number.m in
     let i = c.loop-number.invariant in
-    let w = subst (λ (l : Limits). Wanted l c.loop-number.start c.in-Some.number) (c.limits-limits.ensures ∙ sym i.2.limits) c.in-Some.ensures in
+    let w = subst (λ (l : Limits). Wanted l c.loop-number.start c.in-Some.number) (c.new-layout.ensures ∙ c.limits.ensures ∙ sym i.2.limits) c.in-Some.ensures in
     record {
-      taken = no_refusal (g.D.Device.chip c.args.device.now) m c.loop-number.start c.in-Some.number i.0 i.1 i.3 w _ c.read-state.ensures c.take_page.new.m c.take_page.ensures.lent c.if-not-take_page.ensures.taken;
+      taken = no_refusal (g.D.Device.chip c.args.device.now) m c.loop-number.start c.in-Some.number i.0 i.1 i.3 w _ c.read-state.ensures c.take_page.new.m c.take_page.ensures.lent c.in_default-take_page.ensures.taken;
       lent = lent_both c.args.m.now m c.take_page.new.m i.2 c.take_page.ensures.lent;
     }
 
@@ -35,15 +35,15 @@ pub loop-number-smaller : goal.loop-number-smaller
 loop-number-smaller g c =
     let m = c.loop-number.m in
     let i = c.loop-number.invariant in
-    let w = subst (λ (l : Limits). Wanted l c.loop-number.start c.in-Some.number) (c.limits-limits.ensures ∙ sym i.2.limits) c.in-Some.ensures in
-    page_less (g.D.Device.chip c.args.device.now) m c.loop-number.start c.in-Some.number i.0 i.1 i.3 w _ c.read-state.ensures c.take_page.new.m c.take_page.ensures.lent c.take_page.new.stage c.if-not-take_page.ensures.taken
+    let w = subst (λ (l : Limits). Wanted l c.loop-number.start c.in-Some.number) (c.new-layout.ensures ∙ c.limits.ensures ∙ sym i.2.limits) c.in-Some.ensures in
+    page_less (g.D.Device.chip c.args.device.now) m c.loop-number.start c.in-Some.number i.0 i.1 i.3 w _ c.read-state.ensures c.take_page.new.m c.take_page.ensures.lent c.take_page.new.stage c.in-Ok.ensures.taken
 
 pub loop-number-preserved : goal.loop-number-preserved
 loop-number-preserved g c =
     let m = c.loop-number.m in
     let i = c.loop-number.invariant in
-    let at = c.if-not-take_page.ensures.taken in
-    let w = subst (λ (l : Limits). Wanted l c.loop-number.start c.in-Some.number) (c.limits-limits.ensures ∙ sym i.2.limits) c.in-Some.ensures in (
+    let at = c.in-Ok.ensures.taken in
+    let w = subst (λ (l : Limits). Wanted l c.loop-number.start c.in-Some.number) (c.new-layout.ensures ∙ c.limits.ensures ∙ sym i.2.limits) c.in-Some.ensures in (
       c.take_page.ensures.sound,
       at.fits,
       lent_both c.args.m.now m c.take_page.new.m i.2 c.take_page.ensures.lent,
@@ -51,13 +51,13 @@ loop-number-preserved g c =
     )
 
 pub unreachable-requires : goal.unreachable-requires
-unreachable-requires g c = none_left c.limits-limits.result c.loop-number.start (house c.loop-number.m) (c.in_default.ensures whole (house c.loop-number.m)) (λ f e. c.in_default-start.not-Ready f e)
+unreachable-requires g c = none_left c.new-layout.result.limits c.loop-number.start (house c.loop-number.m) (c.in_default.ensures whole (house c.loop-number.m)) (λ f e. c.in_default-start.not-Ready f e)
 
 pub returns : goal.returns
 returns g c =
     let m = c.loop-number.m in
     let i = c.loop-number.invariant in
     record {
-      taken = started (g.D.Device.chip c.args.device.now) m c.in-Ready.found c.new.result i.0 (subst (StageFits m) c.in-Ready.is i.1) (subst (λ (s : Stage). Follows (g.D.Device.chip c.args.device.now) m s) c.in-Ready.is i.3) c.new.ensures;
+      taken = started (g.D.Device.chip c.args.device.now) m c.in-Ready.journal c.new.result i.0 (subst (StageFits m) c.in-Ready.is i.1) (subst (λ (s : Stage). Follows (g.D.Device.chip c.args.device.now) m s) c.in-Ready.is i.3) c.new.ensures;
       lent = i.2;
     }

@@ -1,16 +1,10 @@
--- The act was done where power held, and torn where it failed, as the first number of the tear says.
-use Rattle.std.proofs.Common.{◌≡◌, get_or, sym, ap, ◌∙◌}
+-- The act was done where power held, and torn where it failed.
+use Rattle.std.proofs.Common.{get_or, ap, ◌∙◌}
 use Rattle.meaning.specs.Lines.{pick}
-use Rattle.flash.proofs.Acts.{write_left}
+use Rattle.flash.specs.Pages.{left_by}
+use Rattle.flash.specs.declared.Left.TheVariants.{Done}
+use Rattle.flash.proofs.Acts.{acted_write}
 use Rattle.flash.proofs.write_page.Goals as goal
-use Rattle.flash.proofs.write_page.Goals.{then-fails, else-fails}
 
-pub returns : goal.returns
-returns c =
-    let first = get_or c.args.power.now.tear 0 0 in
-    let how : c.if-fails.how ≡ pick c.fails-fails.result first 1 = elim c.if-fails.branch [
-      | then-fails v ↦ v.how-is ∙ (ap (λ t. get_or t 0 0) c.fails-fails.ensures.tear ∙ ap (λ b. pick b first 1) (sym v.if-fails.true))
-      | else-fails v ↦ v.how-is ∙ ap (λ b. pick b first 1) (sym v.if-fails.false)
-    ] in
-    let l = write_left c.args.k c.if-fails.how c.args.bytes.now c.args.pages.now c.write_as.new.pages c.args.power.now c.fails-fails.new.self c.fails-fails.result how c.fails-fails.ensures c.write_as.ensures in
-    record { acted = l.acted; left = l.left; power = l.power }
+pub returns-clause-acted : goal.returns-clause-acted
+returns-clause-acted c = acted_write c.args.k _ c.args.bytes.now _ _ _ (λ e. c.left_if.ensures ∙ ap (λ held. pick held Done (left_by (get_or c.fails-held.new.self.tear 0 0))) e) c.write_as.ensures

@@ -8,7 +8,7 @@ use Rattle.wire.proofs.Fields.{row_length}
 use Rattle.journal.specs.Codes.{turn_of}
 use Rattle.journal_rows.specs.Layout.{head}
 use Rattle.journal_rows.specs.Bytes.{filled, commit_numbers}
-use Rattle.journal_fill.proofs.Pages.{more, row_append, page_is}
+use Rattle.journal_records.proofs.Pages.{more, row_append, page_is}
 use Rattle.journal_fill.proofs.fill_commit.Goals as goal
 
 pub overflow_cast-words : goal.overflow_cast-words
@@ -25,7 +25,7 @@ returns c = λ can.
     let all : List ℕ = commit_numbers (limits_mean can c.args.m.now.limits) (turn_of c.args.turn) (head (house c.args.m.now)) c.args.begins in
     let two : List ℕ = take 2 all in
     let rest : List ℕ = drop 2 all in
-    let front : c.begin.new.page ≡ filled (row_of 4 two) = c.begin.ensures ∙ ap (λ n. filled (row_of 4 (1 ∷ (n ∷ [])))) c.turn_number.ensures in
+    let front : c.begin.new.page ≡ filled (row_of 4 two) = c.begin.ensures ∙ ap (λ n. filled (row_of 4 (1 ∷ (n ∷ [])))) c.from.ensures in
     let l : c.limits-limits.result ≡ c.args.m.now.limits = c.limits-limits.ensures in
     let same : ◌≡◌ {A = List ℕ} _ rest =
     λ d. (l d).gap ∷ ((l d).hold ∷ ((l d).legs ∷ ((l d).fares ∷ ((l d).bookings ∷ (c.clock.ensures d ∷ (c.leg_count.ensures d ∷ (c.fare_count.ensures d ∷ (c.booking_count.ensures d ∷ (c.args.begins ∷ []))))))))) in

@@ -11,8 +11,8 @@ pub returns-else-page-ring_blocks : goal.returns-else-page-ring_blocks
 returns-else-page-ring_blocks c = record {
   reading = λ can h.
       (let r = c.ring_blocks.ensures.blocks can in
-      let a : 16 * ring_blocks (limits_mean can c.args.limits.now) ≤ c.args.page = omega arith in
-      rw (le-ltb c.args.page (16 * ring_blocks (limits_mean can c.args.limits.now)) a) (ap start.Reading.ready (c.found_in.ensures (limits_mean can c.args.limits.now) h)));
-  ranges = found_ranges c.args.limits.now c.args.commit c.found_in.result c.args.second c.args.page c.requires.within c.requires.page c.found_in.ensures;
+      let a : 16 * ring_blocks (limits_mean can c.args.layout.now.limits) ≤ c.args.page = omega arith in
+      rw (le-ltb c.args.page (16 * ring_blocks (limits_mean can c.args.layout.now.limits)) a) (ap start.Reading.ready (c.found_in.ensures (limits_mean can c.args.layout.now.limits) h)));
+  ranges = found_ranges c.args.layout.now.limits c.args.in_use c.found_in.result c.args.page c.requires.within c.requires.page c.found_in.ensures;
   past = λ m i. i;
 }

@@ -5,8 +5,8 @@ use Rattle.meaning.specs.Promise.{whole}
 use Rattle.sales.proofs.Fits.{not_so_many, so_many}
 use Rattle.sales.proofs.finding.fits.Goals as goal
 
-pub returns-then-blocks_asked-blocks : goal.returns-then-blocks_asked-blocks
-returns-then-blocks_asked-blocks c = not_so_many c.args.limits.now c.args.block c.args.blocks c.blocks_asked.result (sym c.if-not-are_served.ensures) (c.blocks_asked.ensures whole) (ne_eqb _ _ c.if-blocks_asked-blocks.true)
+pub returns-then-blocks : goal.returns-then-blocks
+returns-then-blocks c = not_so_many c.args.limits.now c.args.block c.args.blocks c.blocks-2.result (sym c.if-not-are_served.ensures) (c.blocks-2.ensures whole) (ne_eqb _ _ c.if-blocks.true)
 
 pub returns : goal.returns
-returns c = c.begins_slot.ensures ∙ so_many c.args.limits.now c.args.block c.args.blocks c.blocks_asked.result c.slot_blocks.result (sym c.if-not-are_served.ensures) (c.blocks_asked.ensures whole) (eq-eqb _ _ c.if-blocks_asked-blocks.false) (c.slot_blocks.ensures.blocks whole)
+returns c = c.begins_slot.ensures ∙ so_many c.args.limits.now c.args.block c.args.blocks c.blocks-2.result c.slot_blocks.result (sym c.if-not-are_served.ensures) (c.blocks-2.ensures whole) (eq-eqb _ _ c.if-blocks.false) (c.slot_blocks.ensures.blocks whole)

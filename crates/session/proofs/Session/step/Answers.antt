@@ -30,15 +30,15 @@ unreachable-requires c = omega (arith, c.in_default.ensures.0, listed_few c.args
 
 pub fill_checkpoint-requires : goal.fill_checkpoint-requires
 fill_checkpoint-requires c =
-    let f = subst (ActFits c.limits-limits.result c.pages_now.result c.args.self.now.work) c.in-WriteCheckpoint.is c.next-next.ensures.act in
+    let f = subst (ActFits c.new-layout.result.limits c.pages_now.result c.args.self.now.work) c.in-WriteCheckpoint.is c.next-next.ensures.act in
     record { sound = c.requires.sound; there = omega (arith, f.1, c.pages_now.ensures.pages) }
 
 pub returns-in-Rest : goal.returns-in-Rest
 returns-in-Rest c =
     let s = c.args.self.now in
     let m = c.args.m.now in
-    let on = act_in s m c.requires _ _ c.next-next.result.act c.next-next.result.work c.limits-limits.ensures c.pages_now.ensures.pages c.next-next.ensures.gives c.next-next.ensures.work c.next-next.ensures.act in
-    stepped s m c.requires _ _ c.next-next.result.act c.next-next.result.work c.limits-limits.ensures c.pages_now.ensures.pages c.next-next.ensures.gives c.next-next.ensures.work c.next-next.ensures.act _ _ _ _ _
+    let on = act_in s m c.requires _ _ c.next-next.result.act c.next-next.result.work (c.new-layout.ensures ∙ c.limits.ensures) c.pages_now.ensures.pages c.next-next.ensures.gives c.next-next.ensures.work c.next-next.ensures.act in
+    stepped s m c.requires _ _ c.next-next.result.act c.next-next.result.work (c.new-layout.ensures ∙ c.limits.ensures) c.pages_now.ensures.pages c.next-next.ensures.gives c.next-next.ensures.work c.next-next.ensures.act _ _ _ _ _
     (ap (λ (x : Act). acts_of (stage m) s.journal (house m) (call_kept s) (answer_kept s) x) c.in-Rest.is) (refl, refl) tt (ap rests (subst (ActFits m.limits _ s.work) c.in-Rest.is on))
 
 pub returns-in-Some : goal.returns-in-Some
@@ -46,38 +46,38 @@ returns-in-Some c =
     let s = c.args.self.now in
     let m = c.args.m.now in
     let w = subst (λ (list : List ℕ). AnswerWritten (answer_of s.answer list) c.args.out.now c.encode_answer.new.out (Some c.in-Some.length)) (front s.listed s.sold) c.in-Some.ensures in
-    stepped s m c.requires _ _ c.next-next.result.act c.next-next.result.work c.limits-limits.ensures c.pages_now.ensures.pages c.next-next.ensures.gives c.next-next.ensures.work c.next-next.ensures.act _ _ _ _ _
+    stepped s m c.requires _ _ c.next-next.result.act c.next-next.result.work (c.new-layout.ensures ∙ c.limits.ensures) c.pages_now.ensures.pages c.next-next.ensures.gives c.next-next.ensures.work c.next-next.ensures.act _ _ _ _ _
     (ap (λ (x : Act). acts_of (stage m) s.journal (house m) (call_kept s) (answer_kept s) x) c.in-Say.is) (refl, w.1, w.2) tt tt
 
 pub returns-in-Erase : goal.returns-in-Erase
 returns-in-Erase c =
     let s = c.args.self.now in
     let m = c.args.m.now in
-    let on = act_in s m c.requires _ _ c.next-next.result.act c.next-next.result.work c.limits-limits.ensures c.pages_now.ensures.pages c.next-next.ensures.gives c.next-next.ensures.work c.next-next.ensures.act in
-    stepped s m c.requires _ _ c.next-next.result.act c.next-next.result.work c.limits-limits.ensures c.pages_now.ensures.pages c.next-next.ensures.gives c.next-next.ensures.work c.next-next.ensures.act _ _ _ _ _
+    let on = act_in s m c.requires _ _ c.next-next.result.act c.next-next.result.work (c.new-layout.ensures ∙ c.limits.ensures) c.pages_now.ensures.pages c.next-next.ensures.gives c.next-next.ensures.work c.next-next.ensures.act in
+    stepped s m c.requires _ _ c.next-next.result.act c.next-next.result.work (c.new-layout.ensures ∙ c.limits.ensures) c.pages_now.ensures.pages c.next-next.ensures.gives c.next-next.ensures.work c.next-next.ensures.act _ _ _ _ _
     (ap (λ (x : Act). acts_of (stage m) s.journal (house m) (call_kept s) (answer_kept s) x) c.in-Erase.is) (refl, refl) (subst (ActFits m.limits _ s.work) c.in-Erase.is on) tt
 
 pub returns-in-WriteCall : goal.returns-in-WriteCall
 returns-in-WriteCall c =
     let s = c.args.self.now in
     let m = c.args.m.now in
-    let on = act_in s m c.requires _ _ c.next-next.result.act c.next-next.result.work c.limits-limits.ensures c.pages_now.ensures.pages c.next-next.ensures.gives c.next-next.ensures.work c.next-next.ensures.act in
+    let on = act_in s m c.requires _ _ c.next-next.result.act c.next-next.result.work (c.new-layout.ensures ∙ c.limits.ensures) c.pages_now.ensures.pages c.next-next.ensures.gives c.next-next.ensures.work c.next-next.ensures.act in
     let bytes = ap call_page (c.requires.whole ∙ sym (front s.length s.call)) ∙ sym c.fill_call.ensures in
-    stepped s m c.requires _ _ c.next-next.result.act c.next-next.result.work c.limits-limits.ensures c.pages_now.ensures.pages c.next-next.ensures.gives c.next-next.ensures.work c.next-next.ensures.act _ _ _ _ _
+    stepped s m c.requires _ _ c.next-next.result.act c.next-next.result.work (c.new-layout.ensures ∙ c.limits.ensures) c.pages_now.ensures.pages c.next-next.ensures.gives c.next-next.ensures.work c.next-next.ensures.act _ _ _ _ _
     (ap (λ (x : Act). acts_of (stage m) s.journal (house m) (call_kept s) (answer_kept s) x) c.in-WriteCall.is ∙ ap (written c.in-WriteCall.place) bytes) refl (subst (ActFits m.limits _ s.work) c.in-WriteCall.is on) tt
 
 pub returns-in-WriteCheckpoint : goal.returns-in-WriteCheckpoint
 returns-in-WriteCheckpoint c =
     let s = c.args.self.now in
     let m = c.args.m.now in
-    let on = act_in s m c.requires _ _ c.next-next.result.act c.next-next.result.work c.limits-limits.ensures c.pages_now.ensures.pages c.next-next.ensures.gives c.next-next.ensures.work c.next-next.ensures.act in
-    stepped s m c.requires _ _ c.next-next.result.act c.next-next.result.work c.limits-limits.ensures c.pages_now.ensures.pages c.next-next.ensures.gives c.next-next.ensures.work c.next-next.ensures.act _ _ _ _ _
+    let on = act_in s m c.requires _ _ c.next-next.result.act c.next-next.result.work (c.new-layout.ensures ∙ c.limits.ensures) c.pages_now.ensures.pages c.next-next.ensures.gives c.next-next.ensures.work c.next-next.ensures.act in
+    stepped s m c.requires _ _ c.next-next.result.act c.next-next.result.work (c.new-layout.ensures ∙ c.limits.ensures) c.pages_now.ensures.pages c.next-next.ensures.gives c.next-next.ensures.work c.next-next.ensures.act _ _ _ _ _
     (ap (λ (x : Act). acts_of (stage m) s.journal (house m) (call_kept s) (answer_kept s) x) c.in-WriteCheckpoint.is ∙ ap (written c.in-WriteCheckpoint.place) (sym c.fill_checkpoint.ensures)) refl (subst (ActFits m.limits _ s.work) c.in-WriteCheckpoint.is on).0 tt
 
 pub returns-in-WriteCommit : goal.returns-in-WriteCommit
 returns-in-WriteCommit c =
     let s = c.args.self.now in
     let m = c.args.m.now in
-    let on = act_in s m c.requires _ _ c.next-next.result.act c.next-next.result.work c.limits-limits.ensures c.pages_now.ensures.pages c.next-next.ensures.gives c.next-next.ensures.work c.next-next.ensures.act in
-    stepped s m c.requires _ _ c.next-next.result.act c.next-next.result.work c.limits-limits.ensures c.pages_now.ensures.pages c.next-next.ensures.gives c.next-next.ensures.work c.next-next.ensures.act _ _ _ _ _
+    let on = act_in s m c.requires _ _ c.next-next.result.act c.next-next.result.work (c.new-layout.ensures ∙ c.limits.ensures) c.pages_now.ensures.pages c.next-next.ensures.gives c.next-next.ensures.work c.next-next.ensures.act in
+    stepped s m c.requires _ _ c.next-next.result.act c.next-next.result.work (c.new-layout.ensures ∙ c.limits.ensures) c.pages_now.ensures.pages c.next-next.ensures.gives c.next-next.ensures.work c.next-next.ensures.act _ _ _ _ _
     (ap (λ (x : Act). acts_of (stage m) s.journal (house m) (call_kept s) (answer_kept s) x) c.in-WriteCommit.is ∙ ap (written c.in-WriteCommit.place) (sym (c.fill_commit.ensures stage_calls))) refl (subst (ActFits m.limits _ s.work) c.in-WriteCommit.is on) tt

@@ -1,7 +1,0 @@
-use Rattle.std.proofs.Common.{◌+◌, ◌/◌, ap, arith}
-use Rattle.journal_rows.specs.Layout.{slot_blocks}
-use Rattle.journal_rows.proofs.slot_blocks.Goals as goal
-
-pub returns : goal.returns
-unfolding slot_blocks
-returns c = record { blocks = λ can. ap (λ n. 1 + (n + 15) / 16) c.checkpoint_pages.ensures.pages; few = omega arith }
