@@ -6,11 +6,15 @@ use Rattle.protocol.specs.Forms.{answer_of}
 use Rattle.flash.specs.Pages.{chip_in}
 use Rattle.flash.specs.declared.Power.{Power}
 use Rattle.chips.specs.declared.MemoryChip.{MemoryChip}
-use Rattle.chips.specs.declared.Said.{Said}
+use Rattle.chips.specs.declared.said.Said.{Said}
+
+-- the list beside an answer
+abbrev pub list_of : Said → List ℕ
+list_of s = take s.listed s.sold
 
 -- the answer that was given
 abbrev pub said_means : Said → Answer
-said_means s = answer_of s.answer (take s.listed s.sold)
+said_means s = answer_of s.answer (list_of s)
 
 -- what the chip holds
 abbrev pub chip_of : MemoryChip → Chip

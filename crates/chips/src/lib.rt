@@ -3,7 +3,7 @@
 // crate flash, 513 for a page and sixteen pages for a block.
 #![tactic(auto)]
 
-ghost use Rattle.std.specs.Prelude.{◌≡◌, ◌*◌, ◌<◌, ◌≤◌, true, false, not, [], length, vec_len, vec_capacity, ◌==◌, slice_index};
+ghost use Rattle.std.specs.Prelude.{◌≡◌, ◌*◌, ◌<◌, ◌≤◌, false, [], length, is_ok, is_err, IsOk, vec_len, vec_capacity, ◌==◌, slice_index};
 ghost use Rattle.journal.specs.Acts.{say, wipe, write};
 ghost use Rattle.meaning.specs.Lines.{pick};
 ghost use Rattle.protocol.specs.Forms.{answer_of};
@@ -11,21 +11,14 @@ ghost use Rattle.flash.specs.Pages.{Spent, chip_in, erase_leaves, left_by, write
 ghost use Rattle.driver.specs.Played.{Acted};
 ghost use Rattle.chips.specs.Recorded.{Counted, blocks_in, chip_of, told_by};
 
+mod said;
+
+pub use said::Said;
+
 use driver::Device;
-use flash::{Left, PageRead, PageState, Power, erase_block, read_page, write_page};
+use flash::{Left, PageRead, PageState, Power, PowerFailed, erase_block, read_page, write_page};
 use protocol::Answer;
 use std::alloc::Global;
-
-// The longest list that can stand beside an answer: a number for each class.
-const LONGEST: usize = 26;
-
-// An answer that was given, with the list beside it.
-#[derive(Clone, Copy)]
-pub struct Said {
-    pub answer: Answer,
-    pub sold: [u64; 26],
-    pub listed: usize,
-}
 
 // A chip in lent memory, when power fails, and the answers that were given.
 #[derive(Drop)]
@@ -66,12 +59,12 @@ impl<'a> MemoryChip<'a> {
     }
 
     // Writes a page. Where power fails, the page is torn as the power says.
-    pub fn write_page(&mut self, page: u32, bytes: &[u8; 512]) -> bool
+    pub fn write_page(&mut self, page: u32, bytes: &[u8; 512]) -> Result<(), PowerFailed>
         requires { page < 16 * blocks_in self.old }
-        ensures acted { Acted (chip_of self.old) (told_by self.old) (write page bytes.now) (chip_of self.new) (told_by self.new) result }
+        ensures acted { Acted (chip_of self.old) (told_by self.old) (write page bytes.now) (chip_of self.new) (told_by self.new) (is_ok result) }
         ensures size { blocks_in self.new ≡ blocks_in self.old }
-        ensures left { chip_of self.new ≡ write_leaves (chip_of self.old) page bytes.now (pick result Left.Done (left_by (slice_index self.old.power.tear 0))) }
-        ensures power { Spent self.old.power self.new.power (not result) }
+        ensures left { chip_of self.new ≡ write_leaves (chip_of self.old) page bytes.now (pick (is_ok result) Left.Done (left_by (slice_index self.old.power.tear 0))) }
+        ensures power { Spent self.old.power self.new.power (is_err result) }
         ensures lent { self.new.pages.ghost_name ≡ self.old.pages.ghost_name }
     {
         let mut power = self.power;
@@ -81,12 +74,12 @@ impl<'a> MemoryChip<'a> {
     }
 
     // Erases a block. Where power fails, each page of it is torn as the power says.
-    pub fn erase_block(&mut self, block: u32) -> bool
+    pub fn erase_block(&mut self, block: u32) -> Result<(), PowerFailed>
         requires { block < blocks_in self.old }
-        ensures acted { Acted (chip_of self.old) (told_by self.old) (wipe block) (chip_of self.new) (told_by self.new) result }
+        ensures acted { Acted (chip_of self.old) (told_by self.old) (wipe block) (chip_of self.new) (told_by self.new) (is_ok result) }
         ensures size { blocks_in self.new ≡ blocks_in self.old }
-        ensures left { chip_of self.new ≡ erase_leaves (chip_of self.old) block (λ i. pick result Left.Done (left_by (slice_index self.old.power.tear i))) }
-        ensures power { Spent self.old.power self.new.power (not result) }
+        ensures left { chip_of self.new ≡ erase_leaves (chip_of self.old) block (λ i. pick (is_ok result) Left.Done (left_by (slice_index self.old.power.tear i))) }
+        ensures power { Spent self.old.power self.new.power (is_err result) }
         ensures lent { self.new.pages.ghost_name ≡ self.old.pages.ghost_name }
     {
         let mut power = self.power;
@@ -98,29 +91,18 @@ impl<'a> MemoryChip<'a> {
     // Records an answer, unless power fails in the act. Where it can't be recorded, since there is no
     // memory for it or the list is longer than any answer's, that counts as power failing in the act.
     // With room for one more, and power that holds, a list of up to 26 numbers is recorded.
-    pub fn record_answer(&mut self, answer: Answer, list: &[u64]) -> bool
-        ensures acted { Acted (chip_of self.old) (told_by self.old) (say (answer_of answer list.now)) (chip_of self.new) (told_by self.new) result }
+    pub fn record_answer(&mut self, answer: Answer, list: &[u64]) -> Result<(), PowerFailed>
+        ensures acted { Acted (chip_of self.old) (told_by self.old) (say (answer_of answer list.now)) (chip_of self.new) (told_by self.new) (is_ok result) }
         ensures size { blocks_in self.new ≡ blocks_in self.old }
         ensures bytes { self.new.pages.now ≡ self.old.pages.now }
-        ensures power { Counted self.old.power self.new.power result }
-        ensures room { (self.old.power.acts == 1) ≡ false → length list.now ≤ 26 → vec_len self.old.said < vec_capacity self.old.said → result ≡ true }
+        ensures power { Counted self.old.power self.new.power (is_ok result) }
+        ensures room { (self.old.power.acts == 1) ≡ false → length list.now ≤ 26 → vec_len self.old.said < vec_capacity self.old.said → IsOk result }
         ensures lent { self.new.pages.ghost_name ≡ self.old.pages.ghost_name }
     {
-        let fails = self.power.fails();
-        if fails || list.len() > LONGEST {
-            return false;
-        }
-        let mut sold = [0; LONGEST];
-        sold[0..list.len()].copy_from_slice(list);
-        let said = Said {
-            answer,
-            sold,
-            listed: list.len(),
-        };
-        match self.said.push(said) {
-            Ok(()) => true,
-            Err(_) => false,
-        }
+        self.power.spend()?;
+        let said = Said::new(answer, list).ok_or(PowerFailed)?;
+        self.said.push(said).map_err(|_| PowerFailed)?;
+        Ok(())
     }
 }
 
@@ -144,17 +126,17 @@ impl Device for MemoryChip<'_> {
     }
 
     // Writes a page.
-    fn write(&mut self, page: u32, bytes: &[u8; 512]) -> bool {
+    fn write(&mut self, page: u32, bytes: &[u8; 512]) -> Result<(), PowerFailed> {
         self.write_page(page, bytes)
     }
 
     // Erases a block.
-    fn erase(&mut self, block: u32) -> bool {
+    fn erase(&mut self, block: u32) -> Result<(), PowerFailed> {
         self.erase_block(block)
     }
 
     // Gives an answer: it is recorded.
-    fn say(&mut self, answer: Answer, list: &[u64]) -> bool {
+    fn say(&mut self, answer: Answer, list: &[u64]) -> Result<(), PowerFailed> {
         self.record_answer(answer, list)
     }
 }

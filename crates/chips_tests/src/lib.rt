@@ -9,7 +9,7 @@ ghost use Rattle.chips.specs.Recorded.{blocks_in};
 mod tests {
     use chips::MemoryChip;
     use driver::Device;
-    use flash::Power;
+    use flash::{Power, PowerFailed};
     use protocol::Answer;
     use std::alloc::Global;
     use std::test::Fail;
@@ -27,7 +27,7 @@ mod tests {
     }
 
     // How page 3 is after a write in which power fails, with this number for the page.
-    fn torn_write(heap: Global, how: u8) -> (bool, u8) {
+    fn torn_write(heap: Global, how: u8) -> (Result<(), PowerFailed>, u8) {
         let mut block = [0; BLOCK];
         let power = Power {
             acts: 1,
@@ -46,20 +46,20 @@ mod tests {
             tear: [0; 16],
         };
         let mut device = MemoryChip::new(&mut block, power, rt.alloc());
-        assert!(rt; device.write(15, &[7; 512]));
+        assert!(rt; device.write(15, &[7; 512]).is_ok());
         assert!(rt; look(&device, 15) == (1, 7, 7));
         assert!(rt; look(&device, 14) == (0, 0, 0));
-        assert!(rt; device.write(15, &[8; 512]));
+        assert!(rt; device.write(15, &[8; 512]).is_ok());
         assert!(rt; look(&device, 15) == (2, 0, 0));
-        assert!(rt; device.erase(0));
+        assert!(rt; device.erase(0).is_ok());
         assert!(rt; look(&device, 15) == (0, 0, 0));
     }
 
     #[test]
     fn torn_writes(rt: HostRuntime) {
-        assert!(rt; torn_write(rt.alloc(), 0) == (false, 0));
-        assert!(rt; torn_write(rt.alloc(), 1) == (false, 1));
-        assert!(rt; torn_write(rt.alloc(), 2) == (false, 2));
+        assert!(rt; torn_write(rt.alloc(), 0) == (Err(PowerFailed), 0));
+        assert!(rt; torn_write(rt.alloc(), 1) == (Err(PowerFailed), 1));
+        assert!(rt; torn_write(rt.alloc(), 2) == (Err(PowerFailed), 2));
     }
 
     // Four pages are written, and power fails in the fifth act, in which the block is erased: the first
@@ -72,11 +72,11 @@ mod tests {
             tear: [0, 1, 2, 3, 0, 0, 0, 0, 0, 0, 0, 0, 0, 0, 0, 0],
         };
         let mut device = MemoryChip::new(&mut block, power, rt.alloc());
-        assert!(rt; device.write(0, &[7; 512]));
-        assert!(rt; device.write(1, &[7; 512]));
-        assert!(rt; device.write(2, &[7; 512]));
-        assert!(rt; device.write(3, &[7; 512]));
-        assert!(rt; !device.erase(0));
+        assert!(rt; device.write(0, &[7; 512]).is_ok());
+        assert!(rt; device.write(1, &[7; 512]).is_ok());
+        assert!(rt; device.write(2, &[7; 512]).is_ok());
+        assert!(rt; device.write(3, &[7; 512]).is_ok());
+        assert!(rt; device.erase(0).is_err());
         assert!(rt; look(&device, 0) == (1, 7, 7));
         assert!(rt; look(&device, 1) == (0, 0, 0));
         assert!(rt; look(&device, 2) == (2, 0, 0));
@@ -92,14 +92,14 @@ mod tests {
             tear: [0; 16],
         };
         let mut device = MemoryChip::new(&mut block, power, rt.alloc());
-        assert!(rt; device.say(Answer::Sold, &[4, 2]));
-        assert!(rt; !device.say(Answer::Number { value: 5 }, &[]));
+        assert!(rt; device.say(Answer::Sold, &[4, 2]).is_ok());
+        assert!(rt; device.say(Answer::Number { value: 5 }, &[]).is_err());
         assert!(rt; device.power().acts == 0);
         let [one] = device.said() else {
             return Err(Fail::new("one answer"));
         };
         assert!(rt; one.answer == Answer::Sold);
-        assert!(rt; one.listed == 2 && one.sold[0] == 4 && one.sold[1] == 2);
+        assert!(rt; one.list() == [4, 2].as_slice());
         Ok(())
     }
 }

@@ -3,7 +3,7 @@
 // what the chip holds and which answers were given. What is proved here is proved of every device.
 #![tactic(auto)]
 
-ghost use Rattle.std.specs.Prelude.{◌≡◌, ℕ, ◌*◌, ◌<◌, ◌≤◌, true, false, List};
+ghost use Rattle.std.specs.Prelude.{◌≡◌, ℕ, ◌*◌, ◌<◌, ◌≤◌, true, false, is_ok, List};
 ghost use Rattle.meaning.specs.Calls.{Answer as Given, garbled, new_house};
 ghost use Rattle.meaning.specs.Chip.{Chip};
 ghost use Rattle.journal.specs.Acts.{write, wipe, say};
@@ -17,7 +17,7 @@ ghost use Rattle.journal_steps.specs.Steps.{chip_limits};
 ghost use Rattle.session.specs.Acts.{Ready, at_rest, pending};
 ghost use Rattle.driver.specs.Played.{Acted, CallPlayed, Finished, Kept, OneAct, TakenUp, page_of};
 
-use flash::{PageRead, PageState};
+use flash::{PageRead, PageState, PowerFailed};
 use journal_records::WrongPage;
 use journal_rows::Layout;
 use journal_start::Stage;
@@ -25,8 +25,8 @@ use protocol::Answer;
 use session::{Effect, Session};
 use store::Memory;
 
-// A chip, and whoever hears the answers. Each act tells whether power held; where it failed, the act
-// is torn, and nothing more may be done.
+// A chip, and whoever hears the answers. Where power fails in an act, the act is torn, and nothing more
+// may be done.
 pub trait Device {
     // what the chip holds
     ghost chip: { Self → Chip };
@@ -43,35 +43,35 @@ pub trait Device {
         ensures { page_of result bytes.new ≡ chip self.now page };
 
     // Writes a page.
-    fn write(&mut self, page: u32, bytes: &[u8; 512]) -> bool
+    fn write(&mut self, page: u32, bytes: &[u8; 512]) -> Result<(), PowerFailed>
         requires { page < 16 * blocks self.old }
-        ensures acted { Acted (chip self.old) (told self.old) (write page bytes.now) (chip self.new) (told self.new) result }
+        ensures acted { Acted (chip self.old) (told self.old) (write page bytes.now) (chip self.new) (told self.new) (is_ok result) }
         ensures size { blocks self.new ≡ blocks self.old };
 
     // Erases a block.
-    fn erase(&mut self, block: u32) -> bool
+    fn erase(&mut self, block: u32) -> Result<(), PowerFailed>
         requires { block < blocks self.old }
-        ensures acted { Acted (chip self.old) (told self.old) (wipe block) (chip self.new) (told self.new) result }
+        ensures acted { Acted (chip self.old) (told self.old) (wipe block) (chip self.new) (told self.new) (is_ok result) }
         ensures size { blocks self.new ≡ blocks self.old };
 
     // Gives an answer, with the list beside it.
-    fn say(&mut self, answer: Answer, list: &[u64]) -> bool
-        ensures acted { Acted (chip self.old) (told self.old) (say (answer_of answer list.now)) (chip self.new) (told self.new) result }
+    fn say(&mut self, answer: Answer, list: &[u64]) -> Result<(), PowerFailed>
+        ensures acted { Acted (chip self.old) (told self.old) (say (answer_of answer list.now)) (chip self.new) (told self.new) (is_ok result) }
         ensures size { blocks self.new ≡ blocks self.old };
 }
 
-// Does the next act of a session on a device. Tells whether power held.
+// Does the next act of a session on a device.
 fn act<D: Device>(
     device: &mut D,
     session: &mut Session,
     m: &Memory,
     page: &mut [u8; 512],
     out: &mut [u8; 256],
-) -> bool
+) -> Result<(), PowerFailed>
     requires ready { Ready session.old m.now }
     requires owed { at_rest session.old ≡ false }
     requires size { room_for (chip_limits m.now.limits) ≤ D.Device.blocks device.old }
-    ensures done { OneAct (D.Device.chip device.old) (D.Device.told device.old) (pending session.old m.now) (pending session.new m.now) (D.Device.chip device.new) (D.Device.told device.new) result }
+    ensures done { OneAct (D.Device.chip device.old) (D.Device.told device.old) (pending session.old m.now) (pending session.new m.now) (D.Device.chip device.new) (D.Device.told device.new) (is_ok result) }
     ensures kept { Kept session.old session.new m.now }
     ensures size { D.Device.blocks device.new ≡ D.Device.blocks device.old }
 {
@@ -83,31 +83,29 @@ fn act<D: Device>(
     }
 }
 
-// Does all that a session still owes, until nothing is left or power fails. Tells whether power held.
+// Does all that a session still owes, until nothing is left or power fails.
 pub fn finish<D: Device>(
     device: &mut D,
     session: &mut Session,
     m: &Memory,
     page: &mut [u8; 512],
     out: &mut [u8; 256],
-) -> bool
+) -> Result<(), PowerFailed>
     requires ready { Ready session.old m.now }
     requires size { room_for (chip_limits m.now.limits) ≤ D.Device.blocks device.old }
-    ensures done { Finished (D.Device.chip device.old) (D.Device.told device.old) (pending session.old m.now) (D.Device.chip device.new) (D.Device.told device.new) result }
+    ensures done { Finished (D.Device.chip device.old) (D.Device.told device.old) (pending session.old m.now) (D.Device.chip device.new) (D.Device.told device.new) (is_ok result) }
     ensures kept { Kept session.old session.new m.now }
-    ensures rests { result ≡ true → at_rest session.new ≡ true }
+    ensures rests { is_ok result ≡ true → at_rest session.new ≡ true }
     ensures size { D.Device.blocks device.new ≡ D.Device.blocks device.old }
 {
     while !session.is_resting() {
-        if !act(device, session, m, page, out) {
-            return false;
-        }
+        act(device, session, m, page, out)?;
     }
-    true
+    Ok(())
 }
 
 // Plays the call that a row of bytes is, on a session at rest: it is begun, and all that it owes is
-// done. Tells whether power held.
+// done.
 pub fn play_row<D: Device>(
     device: &mut D,
     session: &mut Session,
@@ -115,11 +113,11 @@ pub fn play_row<D: Device>(
     page: &mut [u8; 512],
     out: &mut [u8; 256],
     row: &[u8],
-) -> bool
+) -> Result<(), PowerFailed>
     requires ready { Ready session.old m.old }
     requires rests { at_rest session.old ≡ true }
     requires size { room_for (chip_limits m.old.limits) ≤ D.Device.blocks device.old }
-    ensures played { CallPlayed session.old session.new m.old m.new (decoded row.now) (D.Device.chip device.old) (D.Device.told device.old) (D.Device.chip device.new) (D.Device.told device.new) result }
+    ensures played { CallPlayed session.old session.new m.old m.new (decoded row.now) (D.Device.chip device.old) (D.Device.told device.old) (D.Device.chip device.new) (D.Device.told device.new) (is_ok result) }
     ensures size { D.Device.blocks device.new ≡ D.Device.blocks device.old }
 {
     let begun = session.begin(m, row);
@@ -137,11 +135,11 @@ pub fn play_unread<D: Device>(
     page: &mut [u8; 512],
     out: &mut [u8; 256],
     place: u64,
-) -> bool
+) -> Result<(), PowerFailed>
     requires ready { Ready session.old m.now }
     requires rests { at_rest session.old ≡ true }
     requires size { room_for (chip_limits m.now.limits) ≤ D.Device.blocks device.old }
-    ensures played { CallPlayed session.old session.new m.now m.now (garbled place) (D.Device.chip device.old) (D.Device.told device.old) (D.Device.chip device.new) (D.Device.told device.new) result }
+    ensures played { CallPlayed session.old session.new m.now m.now (garbled place) (D.Device.chip device.old) (D.Device.told device.old) (D.Device.chip device.new) (D.Device.told device.new) (is_ok result) }
     ensures size { D.Device.blocks device.new ≡ D.Device.blocks device.old }
 {
     let begun = session.refuse(m, place);

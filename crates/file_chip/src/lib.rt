@@ -17,7 +17,7 @@ ghost use Rattle.chips.specs.Recorded.{blocks_in, chip_of, told_by};
 
 use chips::MemoryChip;
 use driver::Device;
-use flash::{PageState, Power};
+use flash::{PageState, Power, PowerFailed};
 use protocol::Answer;
 use std::alloc::Global;
 use std::fs::File;
@@ -100,8 +100,8 @@ impl<'a> FileChip<'a> {
         let Some(first) = block.checked_mul(BLOCK) else {
             return Err(io::Error::from(io::ErrorKind::FileTooLarge));
         };
-        for i in 0..BLOCK {
-            self.store_page(first + i)?;
+        for page in first..=first + (BLOCK - 1) {
+            self.store_page(page)?;
         }
         Ok(())
     }
@@ -126,34 +126,34 @@ impl Device for FileChip<'_> {
     }
 
     // Writes a page.
-    fn write(&mut self, page: u32, bytes: &[u8; 512]) -> bool {
+    fn write(&mut self, page: u32, bytes: &[u8; 512]) -> Result<(), PowerFailed> {
         let held = self.mirror.write_page(page, bytes);
         if self.store_page(page).is_err() {
             self.failed = Some(Fault::File);
-            return false;
+            return Err(PowerFailed);
         }
         held
     }
 
     // Erases a block.
-    fn erase(&mut self, block: u32) -> bool {
+    fn erase(&mut self, block: u32) -> Result<(), PowerFailed> {
         let held = self.mirror.erase_block(block);
         if self.store_block(block).is_err() {
             self.failed = Some(Fault::File);
-            return false;
+            return Err(PowerFailed);
         }
         held
     }
 
     // Gives an answer: it is printed, unless power fails in the act, and then recorded.
-    fn say(&mut self, answer: Answer, list: &[u64]) -> bool {
+    fn say(&mut self, answer: Answer, list: &[u64]) -> Result<(), PowerFailed> {
         let fails = self.mirror.power().acts == 1;
         if !fails && self.print_answer(answer, list).is_err() {
             self.failed = Some(Fault::Output);
-            return false;
+            return Err(PowerFailed);
         }
         let held = self.mirror.record_answer(answer, list);
-        if !fails && !held {
+        if !fails && held.is_err() {
             self.failed = Some(Fault::NoMemory);
         }
         held

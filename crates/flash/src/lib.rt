@@ -4,7 +4,7 @@
 // chip says, and where power fails it leaves what the definition allows, by numbers that are lent.
 #![tactic(auto)]
 
-ghost use Rattle.std.specs.Prelude.{◌≡◌, ◌+◌, ◌*◌, ◌≤◌, not, ◌∷◌, length, slice_index};
+ghost use Rattle.std.specs.Prelude.{◌≡◌, ◌+◌, ◌*◌, ◌≤◌, ◌∷◌, length, is_ok, is_err, slice_index};
 ghost use Rattle.meaning.specs.Chip.{write, wipe};
 ghost use Rattle.meaning.specs.Lines.{pick};
 ghost use Rattle.flash.specs.Pages.{Acted, ChipIs, RowPut, Spent, chip_in, erase_leaves, left_by, number_of, page_erased, page_told, state_of, write_leaves};
@@ -72,6 +72,10 @@ impl From<u8> for Left {
         }
     }
 }
+
+// Power failed in an act.
+#[derive(Clone, Copy, PartialEq, Eq, Debug)]
+pub struct PowerFailed;
 
 // When power fails, counted in acts (0 is never), and what it leaves of each page of the act.
 #[derive(Clone, Copy)]
@@ -153,43 +157,51 @@ fn erase_as(pages: &mut [u8], k: usize, left: Left)
 }
 
 impl Power {
-    // One act more: does power fail in it.
-    pub fn fails(&mut self) -> bool
-        ensures { Spent self.old self.new result }
+    // One act more: power fails in it if it is the last that was left.
+    pub fn spend(&mut self) -> Result<(), PowerFailed>
+        ensures { Spent self.old self.new (is_err result) }
     {
-        let fails = self.acts == 1;
+        let last = self.acts == 1;
         self.acts = self.acts.saturating_sub(1);
-        fails
+        if last { Err(PowerFailed) } else { Ok(()) }
     }
 }
 
 // What an act leaves of a page: it is done where power held, else what the number of the tear says.
-fn left_if(held: bool, number: u8) -> Left
-    ensures { result ≡ pick held Left.Done (left_by number) }
+fn left_if(held: Result<(), PowerFailed>, number: u8) -> Left
+    ensures { result ≡ pick (is_ok held) Left.Done (left_by number) }
 {
-    if held { Left::Done } else { Left::from(number) }
+    match held {
+        Ok(()) => Left::Done,
+        Err(PowerFailed) => Left::from(number),
+    }
 }
 
-// Writes a page. Gives whether power held; where it failed, the page is torn as the power says.
-pub fn write_page(pages: &mut [u8], power: &mut Power, k: usize, bytes: &[u8; 512]) -> bool
+// Writes a page. Where power fails, the page is torn as the power says.
+pub fn write_page(
+    pages: &mut [u8],
+    power: &mut Power,
+    k: usize,
+    bytes: &[u8; 512],
+) -> Result<(), PowerFailed>
     requires { k * 513 + 513 ≤ length pages.old }
-    ensures acted { Acted (write k bytes.now) pages.old pages.new result }
-    ensures left { ChipIs (write_leaves (chip_in pages.old) k bytes.now (pick result Left.Done (left_by (slice_index power.old.tear 0)))) pages.old pages.new }
-    ensures power { Spent power.old power.new (not result) }
+    ensures acted { Acted (write k bytes.now) pages.old pages.new (is_ok result) }
+    ensures left { ChipIs (write_leaves (chip_in pages.old) k bytes.now (pick (is_ok result) Left.Done (left_by (slice_index power.old.tear 0)))) pages.old pages.new }
+    ensures power { Spent power.old power.new (is_err result) }
 {
-    let held = !power.fails();
+    let held = power.spend();
     write_as(pages, k, bytes, left_if(held, power.tear[0]));
     held
 }
 
-// Erases a block. Gives whether power held; where it failed, each page is torn as the power says.
-pub fn erase_block(pages: &mut [u8], power: &mut Power, block: usize) -> bool
+// Erases a block. Where power fails, each page of it is torn as the power says.
+pub fn erase_block(pages: &mut [u8], power: &mut Power, block: usize) -> Result<(), PowerFailed>
     requires { (block * 16 + 16) * 513 ≤ length pages.old }
-    ensures acted { Acted (wipe block) pages.old pages.new result }
-    ensures left { ChipIs (erase_leaves (chip_in pages.old) block (λ i. pick result Left.Done (left_by (slice_index power.old.tear i)))) pages.old pages.new }
-    ensures power { Spent power.old power.new (not result) }
+    ensures acted { Acted (wipe block) pages.old pages.new (is_ok result) }
+    ensures left { ChipIs (erase_leaves (chip_in pages.old) block (λ i. pick (is_ok result) Left.Done (left_by (slice_index power.old.tear i)))) pages.old pages.new }
+    ensures power { Spent power.old power.new (is_err result) }
 {
-    let held = !power.fails();
+    let held = power.spend();
     for (i, number) in power.tear.iter().enumerate() {
         erase_as(pages, block * 16 + i, left_if(held, *number));
     }

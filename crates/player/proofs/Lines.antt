@@ -15,7 +15,6 @@ use Rattle.wire.proofs.Encoding.{is_call}
 use Rattle.wire.specs.Rows.{CallWritten, CanBeWritten, encoded, decoded}
 use Rattle.session.specs.declared.Session.{Session}
 use Rattle.driver.specs.Played.{CallPlayed}
-use Rattle.player.specs.Texts.{PlaysLine, held_so}
 
 can_be_written : (line list : List ℕ) (c : Call) → line_call line ≡ call_of c list → CanBeWritten (call_of c list)
 can_be_written line list c e =
@@ -36,7 +35,6 @@ reads_as line list old new n c e w =
     let bytes : take n new ≡ encoded (call_of c list) = ap (take n) w.3 ∙ take_at (encoded (call_of c list)) (drop (length (encoded (call_of c list))) old) n (sym w.2) in
     ap decoded bytes ∙ (calls_come_back (call_of c list) (can_be_written line list c e) ∙ sym e)
 
--- by whether power held
-pub as_line : (s t : Session) (m n : Memory) (x c : meaning.Call) (d e : Chip) (ts us : List Answer) (held : Bool) → x ≡ c → CallPlayed s t m n x d ts e us held → PlaysLine s t m n c d ts e us (held_so held)
-as_line s t m n x c d e ts us true q p = subst (λ (y : meaning.Call). CallPlayed s t m n y d ts e us true) q p
-as_line s t m n x c d e ts us false q p = subst (λ (y : meaning.Call). CallPlayed s t m n y d ts e us false) q p
+-- the call that was played is the line's
+pub as_line : (s t : Session) (m n : Memory) (x c : meaning.Call) (d e : Chip) (ts us : List Answer) (held : Bool) → x ≡ c → CallPlayed s t m n x d ts e us held → CallPlayed s t m n c d ts e us held
+as_line s t m n x c d e ts us held q p = subst (λ (y : meaning.Call). CallPlayed s t m n y d ts e us held) q p

@@ -1,5 +1,5 @@
 -- Calls one after the other, on a chip; and the calls of a text, line by line.
-use Rattle.std.proofs.Common.{◌≡◌, ℕ, zero, suc, ◌+◌, ◌-◌, ◌<◌, ◌≤◌, min, Bool, true, false, eqb, List, [], ◌∷◌, ◌++◌, length, take, sym, refl, ap, ◌∙◌, subst, ap₂, inl, append_assoc, append-nil, arith, length-drop, length-take}
+use Rattle.std.proofs.Common.{◌≡◌, ℕ, zero, suc, ◌+◌, ◌-◌, ◌<◌, ◌≤◌, min, Bool, true, false, eqb, List, [], ◌∷◌, ◌++◌, length, take, sym, refl, ap, ◌∙◌, subst, ap₂, inl, append_assoc, append-nil, Err, arith, length-drop, length-take}
 use Rattle.std.proofs.lemmas.Bool.{and_from, and_parts}
 use Rattle.meaning.specs.Lines.{pick}
 use Rattle.meaning.specs.House.{House}
@@ -26,7 +26,9 @@ use Rattle.session.specs.declared.Session.{Session}
 use Rattle.driver.specs.Played.{CallPlayed, Finished, Progress, Stopped}
 use Rattle.driver.proofs.Runs.{left_later, take_later}
 use Rattle.every_call.specs.Stage.{stage_calls}
-use Rattle.player.specs.Texts.{CutOff, calls_in, passed_over}
+use Rattle.player.specs.Texts.{CutOff, PlaysLine, calls_in, passed_over}
+use Rattle.player.specs.declared.LineFault.{LineFault}
+use Rattle.player.specs.declared.LineFault.TheVariants as line
 
 -- the acts that the program does for some calls, from a journal and a house on
 abbrev pub owes : Limits → Journal → House → List Call → List (Act Answer)
@@ -88,7 +90,7 @@ module _ (d : Chip) (ts : List Answer) (before : List (Act Answer)) where
   cut_here : (now : List (Act Answer)) (e : Chip) (us : List Answer) → Progress d ts before now e us → CutOff d ts before e us
   cut_here now e us p = cut_behind p.past now e e us us p.split p.chip p.heard (record { at = 0; left = untouched e now; heard = nothing us now })
 
-  pub cut_same : (now : List (Act Answer)) (e f : Chip) (us vs : List Answer) → Progress d ts before now e us → f ≡ e → vs ≡ us → CutOff d ts before f vs
+  cut_same : (now : List (Act Answer)) (e f : Chip) (us vs : List Answer) → Progress d ts before now e us → f ≡ e → vs ≡ us → CutOff d ts before f vs
   cut_same now e f us vs p q r = subst (λ (x : Chip). CutOff d ts before x vs) (sym q) (subst (λ (x : List Answer). CutOff d ts before e x) (sym r) (cut_here now e us p))
 
   -- ONE CALL MORE, where power held
@@ -101,10 +103,16 @@ module _ (d : Chip) (ts : List Answer) (before : List (Act Answer)) where
       (finished_more _ _ e f us vs (subst (λ (u : Limits). Progress d ts before (owes u s.journal (house m) (c ∷ cs)) e us) (sym q) p) k.acts))
 
   -- and where it failed
-  pub call_cut : (l : Limits) (s t : Session) (m n : Memory) (c : Call) (cs : List Call) (e f : Chip) (us vs : List Answer) → m.limits ≡ l → Progress d ts before (owes l s.journal (house m) (c ∷ cs)) e us →
+  call_cut : (l : Limits) (s t : Session) (m n : Memory) (c : Call) (cs : List Call) (e f : Chip) (us vs : List Answer) → m.limits ≡ l → Progress d ts before (owes l s.journal (house m) (c ∷ cs)) e us →
       CallPlayed s t m n c e us f vs false → CutOff d ts before f vs
   unfolding acts
   call_cut l s t m n c cs e f us vs q p k = cut_in _ _ e f us vs (subst (λ (u : Limits). Progress d ts before (owes u s.journal (house m) (c ∷ cs)) e us) (sym q) p) k.acts
+
+  -- a line that was not played to its end
+  pub line_cut : (l : Limits) (s t : Session) (m n : Memory) (c : Call) (cs : List Call) (e f : Chip) (us vs : List Answer) (fault : LineFault) → m.limits ≡ l → Progress d ts before (owes l s.journal (house m) (c ∷ cs)) e us →
+      PlaysLine s t m n c e us f vs (Err fault) → CutOff d ts before f vs
+  line_cut l s t m n c cs e f us vs line.PowerFailed q p k = call_cut l s t m n c cs e f us vs q p k
+  line_cut l s t m n c cs e f us vs line.NoMemory q p k = cut_same _ e f us vs p k.2 k.3
 
 -- LINE BY LINE: a line that is passed over, and one that is a call
 line_over : (n : ℕ) (bs : List ℕ) → 0 < length bs → passed_over (line_of bs) ≡ true → calls_in (suc n) bs ≡ calls_in n (past_line bs)

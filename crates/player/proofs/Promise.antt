@@ -1,5 +1,5 @@
 -- The main promise of a run, from what was done on the chip.
-use Rattle.std.proofs.Common.{◌≡◌, ℕ, zero, suc, ◌+◌, ◌≤◌, true, ◌⊎◌, List, [], ◌∷◌, ◌++◌, length, take, sym, refl, ap, ◌∙◌, subst, inl, inr, append-nil, arith}
+use Rattle.std.proofs.Common.{◌≡◌, ℕ, zero, suc, ◌+◌, ◌≤◌, true, ◌⊎◌, List, [], ◌∷◌, ◌++◌, length, take, sym, refl, ap, ◌∙◌, subst, inl, inr, append-nil, Ok, Err, arith}
 use Rattle.std.proofs.lemmas.List.{take_all}
 use Rattle.meaning.specs.House.{House}
 use Rattle.meaning.specs.Calls.{Answer, Call, Limits, after, answers, ran, new_house}
@@ -17,9 +17,9 @@ use Rattle.session.specs.Acts.{state}
 use Rattle.session.specs.declared.Session.{Session}
 use Rattle.driver.specs.Played.{Finished, Started}
 use Rattle.driver.proofs.Runs.{left_later}
-use Rattle.player.specs.Texts.{AllKept, CutOff, KeptPromise, RunEnded, TextPlayed}
-use Rattle.player.specs.declared.Ending.{Ending}
-use Rattle.player.specs.declared.Ending.TheVariants as ending
+use Rattle.player.specs.Texts.{AllKept, CutOff, KeptPromise, RunEnded, TextPlayed, ended_by}
+use Rattle.player.specs.declared.LineFault.{LineFault}
+use Rattle.player.specs.declared.LineFault.TheVariants as line
 
 -- the answers among the first acts are the first answers
 said_front : (k : ℕ) (xs : List (Act Answer)) → said (take k xs) ≡ take (length (said (take k xs))) (said xs)
@@ -77,9 +77,10 @@ module _ (l : Limits) (g : GoodLimits l) (d e : Chip) (before cs : List Call) (s
       go (inl r) = let z : length cs ≤ length (said (take (length todo + 0) todo)) = omega (arith, many) in subst (λ (v : List Call). Reads l page_bytes e (before ++ v)) (take_all (length (said (take (length todo + 0) todo))) cs z) r
       go (inr r) = let z : length cs ≤ suc (length (said (take (length todo + 0) todo))) = omega (arith, many) in subst (λ (v : List Call). Reads l page_bytes e (before ++ v)) (take_all (suc (length (said (take (length todo + 0) todo)))) cs z) r
 
--- what a text that was played keeps, however it ended
-pub ended : (m : Memory) (s : Session) (cs : List Call) (d e : Chip) (ts us : List Answer) (r : Ending) → Started d m s → TextPlayed s m cs d ts e us r → RunEnded (stage m) cs d ts e us r
-ended m s cs d e ts us ending.Refused b t = absurd t
-ended m s cs d e ts us ending.Done b t = λ before reads ok. all_kept (stage m) b.ready.sound.limits d e before cs (state s m) b.start reads ok ts us t
-ended m s cs d e ts us ending.PowerFailed b t = λ before reads ok. kept_promise (stage m) b.ready.sound.limits d e before cs (state s m) b.start reads ok ts us t
-ended m s cs d e ts us ending.NoMemory b t = λ before reads ok. kept_promise (stage m) b.ready.sound.limits d e before cs (state s m) b.start reads ok ts us t
+-- what a text that was played to its end keeps, and one that was cut off
+pub ended : (m : Memory) (s : Session) (cs : List Call) (d e : Chip) (ts us : List Answer) → Started d m s → TextPlayed s m cs d ts e us (Ok tt) → RunEnded (stage m) cs d ts e us (Ok tt)
+ended m s cs d e ts us b t = λ before reads ok. all_kept (stage m) b.ready.sound.limits d e before cs (state s m) b.start reads ok ts us t
+
+pub cut : (m : Memory) (s : Session) (cs : List Call) (d e : Chip) (ts us : List Answer) (fault : LineFault) → Started d m s → TextPlayed s m cs d ts e us (Err fault) → RunEnded (stage m) cs d ts e us (Err (ended_by fault))
+cut m s cs d e ts us line.PowerFailed b t = λ before reads ok. kept_promise (stage m) b.ready.sound.limits d e before cs (state s m) b.start reads ok ts us t
+cut m s cs d e ts us line.NoMemory b t = λ before reads ok. kept_promise (stage m) b.ready.sound.limits d e before cs (state s m) b.start reads ok ts us t

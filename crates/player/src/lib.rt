@@ -13,9 +13,11 @@ ghost use Rattle.every_call.specs.Stage.{stage};
 ghost use Rattle.journal_steps.specs.Steps.{chip_limits};
 ghost use Rattle.session.specs.Acts.{Ready, at_rest};
 ghost use Rattle.text.specs.CallLines.{line_call};
-ghost use Rattle.player.specs.Texts.{PlaysLine, RunEnded, StatementsHold, TextPlayed, held_so, passed_over, text_calls};
+ghost use Rattle.player.specs.Texts.{PlaysLine, RunEnded, StatementsHold, TextPlayed, ended_by, passed_over, text_calls};
+ghost use Rattle.player.specs.declared.LineFault.TheVariants as line;
 
 use driver::{Device, play_row, play_unread, take_up};
+use flash::PowerFailed;
 use scan::read_line;
 use session::Session;
 use std::alloc::Global;
@@ -23,23 +25,42 @@ use store::Memory;
 use text::{NoCall, read_call};
 use wire::{MAX_CALL, encode_call};
 
-// How a line was played: power held, or it failed in one of its acts; or there was no memory to read
+// Why a line was not played to its end: power failed in one of its acts; or there was no memory to read
 // the line, and nothing was done.
-#[derive(Clone, Copy)]
-pub enum LinePlayed {
-    Held,
-    Failed,
+#[derive(Clone, Copy, PartialEq, Eq, Debug)]
+pub enum LineFault {
+    PowerFailed,
     NoMemory,
 }
 
-// How a run ended: the chip was refused, all lines were played, power failed, or there was no memory
-// to read a line.
-#[derive(Clone, Copy)]
-pub enum Ending {
+impl From<PowerFailed> for LineFault {
+    ghost from_gives = { λ _ fault. fault ≡ line.PowerFailed };
+
+    // Power failed in an act of the line.
+    fn from(_failed: PowerFailed) -> LineFault {
+        LineFault::PowerFailed
+    }
+}
+
+// Why a run ended before its text did: the chip was refused, power failed, or there was no memory to
+// read a line.
+#[derive(Clone, Copy, PartialEq, Eq, Debug)]
+pub enum Unfinished {
     Refused,
-    Done,
     PowerFailed,
     NoMemory,
+}
+
+impl From<LineFault> for Unfinished {
+    ghost from_gives = { λ fault why. why ≡ ended_by fault };
+
+    // A line was not played to its end.
+    fn from(fault: LineFault) -> Unfinished {
+        match fault {
+            LineFault::PowerFailed => Unfinished::PowerFailed,
+            LineFault::NoMemory => Unfinished::NoMemory,
+        }
+    }
 }
 
 // Is a line passed over: an empty one, or one that begins with `#`.
@@ -49,17 +70,6 @@ pub fn is_passed_over(line: &[u8]) -> bool
     match line {
         [] => true,
         [first, ..] => *first == b'#',
-    }
-}
-
-// By whether power held.
-fn line_played(held: bool) -> LinePlayed
-    ensures { result ≡ held_so held }
-{
-    if held {
-        LinePlayed::Held
-    } else {
-        LinePlayed::Failed
     }
 }
 
@@ -73,7 +83,7 @@ fn play_line<D: Device>(
     page: &mut [u8; 512],
     out: &mut [u8; 256],
     line: &[u8],
-) -> LinePlayed
+) -> Result<(), LineFault>
     requires ready { Ready session.old m.old }
     requires rests { at_rest session.old ≡ true }
     requires size { room_for (chip_limits m.old.limits) ≤ D.Device.blocks device.old }
@@ -83,15 +93,15 @@ fn play_line<D: Device>(
     let read = match read_call(heap, line) {
         Ok(read) => read,
         Err(NoCall::Unreadable { place }) => {
-            return line_played(play_unread(device, session, m, page, out, place as u64));
+            return Ok(play_unread(device, session, m, page, out, place as u64)?);
         }
-        Err(NoCall::NoMemory) => return LinePlayed::NoMemory,
+        Err(NoCall::NoMemory) => return Err(LineFault::NoMemory),
     };
     let mut row = [0; MAX_CALL];
     let Some(length) = encode_call(read.call, read.list.as_slice(), &mut row) else {
         unreachable()
     };
-    line_played(play_row(device, session, m, page, out, &row[..length]))
+    Ok(play_row(device, session, m, page, out, &row[..length])?)
 }
 
 // Plays the lines of a text, one after the other, until it ends or power fails.
@@ -101,7 +111,7 @@ pub fn play_text<D: Device>(
     session: &mut Session,
     m: &mut Memory,
     text: &[u8],
-) -> Ending
+) -> Result<(), LineFault>
     requires ready { Ready session.old m.old }
     requires rests { at_rest session.old ≡ true }
     requires size { room_for (chip_limits m.old.limits) ≤ D.Device.blocks device.old }
@@ -117,13 +127,9 @@ pub fn play_text<D: Device>(
         if is_passed_over(next.line) {
             continue;
         }
-        match play_line(heap, device, session, m, &mut page, &mut out, next.line) {
-            LinePlayed::Held => {}
-            LinePlayed::Failed => return Ending::PowerFailed,
-            LinePlayed::NoMemory => return Ending::NoMemory,
-        }
+        play_line(heap, device, session, m, &mut page, &mut out, next.line)?;
     }
-    Ending::Done
+    Ok(())
 }
 
 // Each statement about the house holds of every house that a chip reads as, whatever calls led to it.
@@ -133,7 +139,12 @@ pub fn statements_hold()
 
 // Takes up the chip of a device into memory that means a new house, and plays a text on it. Every line
 // of a text below 4 GiB is a call that the promise speaks of.
-pub fn run<D: Device>(heap: Global, device: &mut D, m: &mut Memory, text: &[u8]) -> Ending
+pub fn run<D: Device>(
+    heap: Global,
+    device: &mut D,
+    m: &mut Memory,
+    text: &[u8],
+) -> Result<(), Unfinished>
     requires sound { Sound m.old }
     requires fresh { house m.old ≡ new_house (stage m.old) }
     requires size { room_for (chip_limits m.old.limits) ≤ D.Device.blocks device.old }
@@ -142,9 +153,8 @@ pub fn run<D: Device>(heap: Global, device: &mut D, m: &mut Memory, text: &[u8])
     ensures lent { Lent m.old m.new }
 {
     let mut page = [0; 512];
-    let Some(session) = take_up(device, m, &mut page) else {
-        return Ending::Refused;
+    let Some(mut session) = take_up(device, m, &mut page) else {
+        return Err(Unfinished::Refused);
     };
-    let mut session = session;
-    play_text(heap, device, &mut session, m, text)
+    Ok(play_text(heap, device, &mut session, m, text)?)
 }

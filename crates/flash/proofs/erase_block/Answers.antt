@@ -1,5 +1,5 @@
 -- The act was done where power held, and torn where it failed.
-use Rattle.std.proofs.Common.{◌≡◌, ℕ, not, get_or, ap, subst, arith}
+use Rattle.std.proofs.Common.{◌≡◌, ℕ, is_ok, get_or, ap, subst, arith}
 use Rattle.meaning.specs.Lines.{pick}
 use Rattle.flash.specs.Pages.{ChipIs, chip_in, erase_leaves, left_by}
 use Rattle.flash.specs.declared.Left.{Left}
@@ -9,7 +9,7 @@ use Rattle.flash.proofs.erase_block.Goals as goal
 
 -- what is left of each page, by its number in the block
 abbrev leaves : goal.After-loop-i → ℕ → Left
-leaves c i = pick (not c.fails-held.result) Done (left_by (get_or c.args.power.now.tear i 0))
+leaves c i = pick (is_ok c.spend-held.result) Done (left_by (get_or c.args.power.now.tear i 0))
 
 erased : (c : goal.After-loop-i) → ChipIs (erase_leaves (chip_in c.args.pages.now) c.args.block (leaves c)) c.args.pages.now c.loop-i.pages
 erased c =

@@ -1,6 +1,7 @@
 -- Line after line.
 use Rattle.std.proofs.Common.{◌-◌, ◌<◌, ◌≤◌, length, sym, refl, ap, ◌∙◌, subst, arith}
 use Rattle.std.proofs.lemmas.Bool.{eqb-true}
+use Rattle.std.proofs.lemmas.Result.{err_from_is_err_and}
 use Rattle.meaning.specs.Promise.{room_for}
 use Rattle.limits.specs.declared.Limits.{Limits}
 use Rattle.store.specs.Whole.{Lent, house}
@@ -9,7 +10,7 @@ use Rattle.store.proofs.Lents.{lent_none, lent_both}
 use Rattle.journal_steps.specs.Steps.{chip_limits}
 use Rattle.driver.proofs.Runs.{all_of, none_done}
 use Rattle.player.specs.Texts.{passed_over}
-use Rattle.player.proofs.Plays.{owes, step_over, step_call, call_more, call_cut, cut_same, no_lines, nothing_owed, some_bytes}
+use Rattle.player.proofs.Plays.{owes, step_over, step_call, call_more, line_cut, no_lines, nothing_owed, some_bytes}
 use Rattle.player.proofs.play_text.Goals as goal
 
 pub loop-rest-init : goal.loop-rest-init
@@ -39,16 +40,16 @@ loop-rest-preserved g c =
     let some : 0 < length b = some_bytes b (sym c.loop-rest-test.ensures) in
     let less = c.read_line-next.ensures.shorter some in
     let p = step_call _ _ _ c.args.m.now.limits c.loop-rest.session.journal (house m) w.0 b c.read_line-next.result.rest.now c.read_line-next.result.line.now _ _ some w.1 c.read_line-next.ensures.rest c.read_line-next.ensures.line (sym c.if-is_passed_over.ensures) w.2 in
-    let k = c.in-Held.ensures.played in (
+    let k = c.in_ok-play_line.ensures.played in (
       (w.0 - 1, omega (arith, w.1), call_more _ _ _ c.args.m.now.limits _ _ m c.play_line.new.m _ _ _ _ _ _ i.3.limits p k),
       k.ready,
       k.rests refl,
       lent_both c.args.m.now m c.play_line.new.m i.3 k.lent,
-      c.in-Held.ensures.size ∙ i.4,
+      c.in_ok-play_line.ensures.size ∙ i.4,
     )
 
-pub returns-in-Failed : goal.returns-in-Failed
-returns-in-Failed g c =
+pub returns-in_err-play_line-clause-played : goal.returns-in_err-play_line-clause-played
+returns-in_err-play_line-clause-played g c =
     let m = c.loop-rest.m in
     let i = c.loop-rest.invariant in
     let w = i.0 in
@@ -56,14 +57,8 @@ returns-in-Failed g c =
     let some : 0 < length b = some_bytes b (sym c.loop-rest-test.ensures) in
     let less = c.read_line-next.ensures.shorter some in
     let p = step_call _ _ _ c.args.m.now.limits c.loop-rest.session.journal (house m) w.0 b c.read_line-next.result.rest.now c.read_line-next.result.line.now _ _ some w.1 c.read_line-next.ensures.rest c.read_line-next.ensures.line (sym c.if-is_passed_over.ensures) w.2 in
-    let k = c.in-Failed.ensures.played in
-    record { played = call_cut _ _ _ c.args.m.now.limits _ _ m c.play_line.new.m _ _ _ _ _ _ i.3.limits p k; lent = lent_both c.args.m.now m c.play_line.new.m i.3 k.lent }
-
-pub returns-in-NoMemory : goal.returns-in-NoMemory
-returns-in-NoMemory g c =
-    let i = c.loop-rest.invariant in
-    let k = c.in-NoMemory.ensures.played in
-    record { played = cut_same _ _ _ _ _ _ _ _ i.0.2 k.2 k.3; lent = subst (λ (n : Memory). Lent c.args.m.now n) (sym k.1) i.3 }
+    let fails = err_from_is_err_and c.from_residual.result c.from_residual.ensures.1 in
+    rw fails.1 (line_cut _ _ _ c.args.m.now.limits _ _ m c.play_line.new.m _ _ _ _ _ _ c.in_err-play_line.field-0.0 i.3.limits p c.in_err-play_line.ensures.played)
 
 pub returns : goal.returns
 returns g c =
