@@ -9,13 +9,12 @@ ghost use Rattle.store.specs.Whole.{Sound, house};
 ghost use Rattle.calls.specs.Stage.{stage};
 
 mod answering;
-mod opening;
 
-use answering::{answer_line, is_passed_over};
+use answering::answer_line;
 use arguments::{Trouble, read_arguments};
+use call_files::{first_line, is_passed_over, limits_of, open_house};
 use flash::Power;
-use limits::{Limits, Sizes};
-use opening::open_house;
+use limits::Sizes;
 use protocol::Answer;
 use questions::Reply;
 use scan::read_line;
@@ -73,13 +72,7 @@ fn play_house(
     text: &[u8],
     power: &mut Power,
 ) -> io::Result<()> {
-    let limits = Limits {
-        gap: house.gap,
-        hold: house.hold,
-        legs: house.legs,
-        fares: house.fares,
-        bookings: house.bookings,
-    };
+    let limits = limits_of(house);
     let mut leg_words = vec![in rt.alloc(); 0u32; 32 * 128]?;
     let mut fare_words = vec![in rt.alloc(); 0u32; 32 * 24]?;
     let mut booking_words = vec![in rt.alloc(); 0u32; 128 * 22]?;
@@ -110,34 +103,16 @@ fn play_house(
     play_calls(rt, &mut m, text, power)
 }
 
-// Plays a file of calls: its first line opens the house.
+// Plays a file of calls: its first line opens the house, and where it has none it is too short at once.
 fn play(rt: &HostRuntime, text: &[u8], bytes: u64, power: &mut Power) -> io::Result<()> {
-    let mut rest = text;
-    while !rest.is_empty() {
-        let next = read_line(rest);
-        rest = next.rest;
-        if is_passed_over(next.line) {
-            continue;
-        }
-        match open_house(next.line, bytes) {
-            Ok(house) => return play_house(rt, house, rest, power),
-            Err(refusal) => {
-                let _ = say(rt, power, refusal, &[])?;
-                return Ok(());
-            }
+    let first = first_line(text);
+    match open_house(first.line, bytes) {
+        Ok(house) => play_house(rt, house, first.rest, power),
+        Err(refusal) => {
+            let _ = say(rt, power, refusal, &[])?;
+            Ok(())
         }
     }
-    // A file with no first line: it is too short at once.
-    let _ = say(
-        rt,
-        power,
-        Answer::Refused {
-            refusal: 1,
-            place: 0,
-        },
-        &[],
-    )?;
-    Ok(())
 }
 
 // Reads the files that the words name, and plays them.
