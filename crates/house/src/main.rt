@@ -5,33 +5,58 @@
 #![tactic(auto)]
 
 ghost use Rattle.meaning.specs.Statements.{Reached};
-ghost use Rattle.store.specs.Whole.{Sound, house};
+ghost use Rattle.store.specs.Whole.{house};
 ghost use Rattle.calls.specs.Stage.{stage};
 
 mod answering;
-mod opening;
 
-use answering::{answer_line, is_passed_over};
+use answering::answer_line;
 use arguments::{Trouble, read_arguments};
-use flash::Power;
+use call_files::{first_line, is_passed_over, open_house};
+use flash::{Power, PowerFailed};
 use limits::{Limits, Sizes};
-use opening::open_house;
-use protocol::Answer;
-use questions::Reply;
-use scan::read_line;
+use protocol::{Answer, Unopened};
+use scan::Lines;
+use std::alloc::AllocError;
 use std::process::ExitCode;
 use std::{env, fs, io};
 use store::{Memory, open};
 use text::answers::AnswerLine;
 
-// Prints an answer, unless it is the act in which power fails. Gives whether power held.
-fn say(rt: &HostRuntime, power: &mut Power, answer: Answer, list: &[u64]) -> io::Result<bool> {
+// Why the calls are not played to their end: power failed in an act, or there is no memory, or an
+// answer can't be printed.
+#[derive(Clone, Copy)]
+enum Stopped {
+    PowerFailed,
+    Outside,
+}
+
+impl From<PowerFailed> for Stopped {
+    fn from(_failed: PowerFailed) -> Stopped {
+        Stopped::PowerFailed
+    }
+}
+
+impl From<AllocError> for Stopped {
+    fn from(_error: AllocError) -> Stopped {
+        Stopped::Outside
+    }
+}
+
+impl From<io::Error> for Stopped {
+    fn from(_error: io::Error) -> Stopped {
+        Stopped::Outside
+    }
+}
+
+// Prints an answer, unless it is the act in which power fails.
+fn say(rt: &HostRuntime, power: &mut Power, answer: Answer, list: &[u64]) -> Result<(), Stopped> {
     if power.fails() {
-        return Ok(false);
+        return Err(Stopped::PowerFailed);
     }
     let line = AnswerLine { answer, list };
     println!(rt; "{line}")?;
-    Ok(true)
+    Ok(())
 }
 
 // How many bytes the file of the pages has; a file that is not there has none.
@@ -44,23 +69,22 @@ fn pages_length(rt: &HostRuntime, path: &str) -> io::Result<u64> {
 }
 
 // Plays the calls of a text on a house, until power fails.
-fn play_calls(rt: &HostRuntime, m: &mut Memory, text: &[u8], power: &mut Power) -> io::Result<()>
-    requires sound { Sound m.old }
-    requires reached { Reached (stage m.old) (house m.old) }
+fn play_calls(
+    rt: &HostRuntime,
+    m: &mut Memory,
+    text: &[u8],
+    power: &mut Power,
+) -> Result<(), Stopped>
+    requires { Reached (stage m.old) (house m.old) }
 {
     let mut sold = [0; 26];
-    let mut rest = text;
-    while !rest.is_empty() {
-        let next = read_line(rest);
-        rest = next.rest;
-        if is_passed_over(next.value) {
+    for line in Lines::new(text) {
+        if is_passed_over(line) {
             continue;
         }
-        let reply = answer_line(rt.alloc(), m, next.value, &mut sold)?;
+        let reply = answer_line(rt.alloc(), m, line, &mut sold)?;
         let listed = reply.listed;
-        if !say(rt, power, reply.answer, &sold[0..listed])? {
-            return Ok(());
-        }
+        say(rt, power, reply.answer, &sold[0..listed])?;
     }
     Ok(())
 }
@@ -71,7 +95,7 @@ fn play_house(
     limits: Limits,
     text: &[u8],
     power: &mut Power,
-) -> io::Result<()> {
+) -> Result<(), Stopped> {
     let mut leg_words = vec![in rt.alloc(); 0u32; 32 * 128]?;
     let mut fare_words = vec![in rt.alloc(); 0u32; 32 * 24]?;
     let mut booking_words = vec![in rt.alloc(); 0u32; 128 * 22]?;
@@ -87,72 +111,35 @@ fn play_house(
         sums: sums.len(),
     };
     let None = limits.misfit(&sizes) else {
-        let _ = say(
-            rt,
-            power,
-            Answer::Refused {
-                refusal: 3,
-                place: 0,
-            },
-            &[],
-        )?;
-        return Ok(());
+        return say(rt, power, Answer::from(Unopened::Memory), &[]);
     };
     let mut m = open(limits, legs, fares, bookings, sums);
     play_calls(rt, &mut m, text, power)
 }
 
-// Plays a file of calls: its first line opens the house.
-fn play(rt: &HostRuntime, text: &[u8], bytes: u64, power: &mut Power) -> io::Result<()> {
-    let mut rest = text;
-    while !rest.is_empty() {
-        let next = read_line(rest);
-        rest = next.rest;
-        if is_passed_over(next.value) {
-            continue;
-        }
-        match open_house(next.value, bytes) {
-            Ok(limits) => return play_house(rt, limits, rest, power),
-            Err(refusal) => {
-                let _ = say(rt, power, refusal, &[])?;
-                return Ok(());
-            }
-        }
+// Plays a file of calls: its first line opens the house, and where it has none it is too short at once.
+fn play(rt: &HostRuntime, text: &[u8], bytes: u64, power: &mut Power) -> Result<(), Stopped> {
+    let first = first_line(text);
+    match open_house(first.value, bytes) {
+        Ok(limits) => play_house(rt, limits, first.rest, power),
+        Err(refusal) => say(rt, power, refusal, &[]),
     }
-    // A file with no first line: it is too short at once.
-    let _ = say(
-        rt,
-        power,
-        Answer::Refused {
-            refusal: 1,
-            place: 0,
-        },
-        &[],
-    )?;
-    Ok(())
 }
 
 // Reads the files that the words name, and plays them.
-fn run(rt: &HostRuntime, words: &[String]) -> io::Result<bool> {
-    let arguments = match read_arguments(words) {
-        Ok(arguments) => arguments,
-        Err(trouble) => return complain(rt, trouble),
-    };
+fn perform<'a>(rt: &HostRuntime, words: &'a [String]) -> Result<(), Trouble<'a>> {
+    let arguments = read_arguments(words)?;
     let Ok(bytes) = pages_length(rt, arguments.pages) else {
-        return complain(rt, Trouble::Unreadable(arguments.pages));
+        return Err(Trouble::Unreadable(arguments.pages));
     };
     let Ok(text) = fs::read(rt, arguments.calls) else {
-        return complain(rt, Trouble::Unreadable(arguments.calls));
+        return Err(Trouble::Unreadable(arguments.calls));
     };
     let mut power = arguments.power;
-    play(rt, text.as_slice(), bytes, &mut power)?;
-    Ok(true)
-}
-
-// Says on standard error, in one line, what went wrong.
-fn complain(rt: &HostRuntime, trouble: Trouble<'_>) -> io::Result<bool> {
-    eprintln!(rt; "house: {trouble}")?;
-    Ok(false)
+    match play(rt, text.as_slice(), bytes, &mut power) {
+        Ok(()) | Err(Stopped::PowerFailed) => Ok(()),
+        Err(Stopped::Outside) => Err(Trouble::Unprinted),
+    }
 }
 
 // The words behind the program's name.
@@ -168,8 +155,12 @@ fn main(rt: HostRuntime) -> ExitCode {
     let Ok(words) = words(&rt) else {
         return ExitCode::FAILURE;
     };
-    match run(&rt, words.as_slice()) {
-        Ok(true) => ExitCode::SUCCESS,
-        Ok(false) | Err(_) => ExitCode::FAILURE,
+    match perform(&rt, words.as_slice()) {
+        Ok(()) => ExitCode::SUCCESS,
+        Err(Trouble::Unprinted) => ExitCode::FAILURE,
+        Err(trouble) => {
+            let _ = eprintln!(rt; "house: {trouble}");
+            ExitCode::FAILURE
+        }
     }
 }

@@ -11,7 +11,7 @@ ghost use Rattle.protocol.specs.Verbs.{verb_number, verb_of};
 mod refusals;
 mod verbs;
 
-pub use refusals::Refusal;
+pub use refusals::{Refusal, Unopened};
 pub use verbs::{NoVerb, Verb};
 
 // A call. Limits stand beside `Open` and `Limits`, legs beside `Book` and `Price`.

@@ -1,6 +1,7 @@
-// Why a call is refused: a kind with a number, which stands in the answer.
+// Why a call is refused, and why a house can't be opened: kinds with numbers, which stand in the
+// answer.
 ghost use Rattle.std.specs.Prelude.{◌≡◌};
-ghost use Rattle.protocol.specs.Refusals.{refusal_number};
+ghost use Rattle.protocol.specs.Refusals.{refusal_number, unopened_place};
 
 use crate::Answer;
 
@@ -43,5 +44,34 @@ impl Refusal {
             refusal: self.number(),
             place,
         }
+    }
+}
+
+// Why a house can't be opened, in the order in which it is looked at. Each one's place in the answer is
+// its place here, counted from 0.
+#[derive(Clone, Copy, PartialEq, Debug)]
+pub enum Unopened {
+    // Memory is too small.
+    Memory,
+    // The chip is too small, or neither blank nor a chip of such a house.
+    Chip,
+    // Something else is out of range.
+    Range,
+}
+
+impl Unopened {
+    // The place of its refusal.
+    pub fn place(self) -> u64
+        ensures { result ≡ unopened_place self }
+    {
+        self as u64
+    }
+}
+
+impl From<Unopened> for Answer {
+    ghost from_gives = { λ why answer. answer ≡ Answer.Refused 3 (unopened_place why) };
+
+    fn from(why: Unopened) -> Answer {
+        Refusal::CannotOpen.at(why.place())
     }
 }

@@ -1,11 +1,16 @@
 -- Opening a house by the first line of a file of calls. Definitions only.
-use Rattle.std.specs.Prelude.{◌≡◌, ℕ, ◌+◌, ◌-◌, ◌*◌, ◌/◌, Bool, true, ◌&&◌, ◌||◌, ◌⊎◌, List, [], ◌∷◌, length, Ok, Err, Result, ◌==◌, nat_le}
+use Rattle.std.specs.Prelude.{◌≡◌, ℕ, ◌+◌, ◌-◌, ◌*◌, ◌/◌, Bool, ◌&&◌, ◌||◌, ◌⊎◌, List, [], ◌∷◌, length, replicate, Ok, Err, vec_items, Result, Vec, ◌==◌, nat_le}
 use Rattle.meaning.specs.Lines.{pick}
 use Rattle.meaning.specs.Calls.{Answer, refused}
 use Rattle.limits.specs.declared.Limits.{Limits}
 use Rattle.protocol.specs.Forms.{answer_of}
+use Rattle.protocol.specs.Refusals.{unopened_place}
 use Rattle.protocol.specs.declared.Answer.{Answer as Told}
+use Rattle.protocol.specs.declared.refusals.Unopened.{Unopened}
+use Rattle.limits.specs.declared.Limits.{Limits}
 use Rattle.scan.specs.Words.{got, bad}
+use Rattle.std.specs.declared.alloc.AllocError.{AllocError}
+use Rattle.std.specs.declared.alloc.Global.{Global}
 use Rattle.text.specs.HouseLines.{house_in, numbers_of}
 
 -- the program lends memory for so many legs, fares and bookings
@@ -28,10 +33,10 @@ times_fit h = nat_le h.gap 65536 && (nat_le 1 h.hold && nat_le h.hold 65536)
 abbrev pub opening_refused : Limits → ℕ → ℕ
 opening_refused h bytes = pick (memory_suffices h) (pick (chip_fits h bytes) (pick (times_fit h) 0 3) 2) 1
 
--- the house can be opened, or not, for what is at this place
-abbrev pub Checked : Result (Unit {0}) ℕ → Limits → ℕ → Type 0
+-- the house can be opened, or why not
+abbrev pub Checked : Result (Unit {0}) Unopened → Limits → ℕ → Type 0
 Checked (Ok u) h bytes = opening_refused h bytes ≡ 0
-Checked (Err place) h bytes = opening_refused h bytes ≡ place + 1
+Checked (Err why) h bytes = opening_refused h bytes ≡ unopened_place why + 1
 
 -- a first line that is no such line: refused by 1, where it ceases to be one
 pub record NoOpening (bs : List ℕ) (a : Answer) : Type 0 where
@@ -57,7 +62,7 @@ abbrev pub FirstLine : Result Limits Told → List ℕ → ℕ → Type 0
 FirstLine (Ok h) bs bytes = Opening bs bytes h
 FirstLine (Err a) bs bytes = NoOpening bs (answer_of a []) ⊎ RefusedOpening bs bytes (answer_of a [])
 
--- a line that is passed over: an empty one, or one that begins with #
-abbrev pub passed_over : List ℕ → Bool
-passed_over [] = true
-passed_over (b ∷ bs) = b == 35
+-- the bytes of the chip: those that were found; where none were, those of a blank one
+abbrev pub Whole : Result (Vec ℕ Global) AllocError → List ℕ → Limits → Type 0
+Whole (Ok v) found h = (length (vec_items v) ≡ chip_bytes h) × (vec_items v ≡ pick (length found == 0) (replicate (chip_bytes h) 0) found)
+Whole (Err e) found h = Unit {0}
