@@ -26,7 +26,8 @@ use Rattle.session.specs.declared.Session.{Session}
 use Rattle.driver.specs.Played.{CallPlayed, Finished, Progress, Stopped}
 use Rattle.driver.proofs.Runs.{left_later, take_later}
 use Rattle.every_call.specs.Stage.{stage_calls}
-use Rattle.player.specs.Texts.{CutOff, PlaysLine, calls_in, passed_over}
+use Rattle.player.specs.Texts.{CutOff, PlaysLine, calls_in}
+use Rattle.call_files.specs.Lines.{passed_over}
 use Rattle.player.specs.declared.LineFault.{LineFault}
 use Rattle.player.specs.declared.LineFault.TheVariants as line
 

@@ -6,6 +6,7 @@ use Rattle.meaning.specs.Chip.{Chip}
 use Rattle.journal.specs.Acts.{Act, LeftAfter, said}
 use Rattle.meaning.specs.Promise.{all_readable}
 use Rattle.journal.specs.Programs.{acts}
+use Rattle.call_files.specs.Lines.{passed_over}
 use Rattle.scan.specs.Words.{line_of, past_line}
 use Rattle.store.specs.declared.Memory.{Memory}
 use Rattle.text.specs.CallLines.{line_call}
@@ -20,11 +21,6 @@ use Rattle.player.specs.declared.LineFault.{LineFault}
 use Rattle.player.specs.declared.LineFault.TheVariants as line
 use Rattle.player.specs.declared.Unfinished.{Unfinished}
 use Rattle.player.specs.declared.Unfinished.TheVariants as unfinished
-
--- a line that is passed over: an empty one, or one that begins with #
-abbrev pub passed_over : List ℕ → Bool
-passed_over [] = true
-passed_over (b ∷ bs) = b == 35
 
 -- the calls of a text of n lines at most: each line that is not passed over is one
 unfoldable pub calls_in : ℕ → List ℕ → List Call

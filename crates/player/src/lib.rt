@@ -13,17 +13,18 @@ ghost use Rattle.every_call.specs.Stage.{stage};
 ghost use Rattle.journal_steps.specs.Steps.{chip_limits};
 ghost use Rattle.session.specs.Acts.{Ready, at_rest};
 ghost use Rattle.text.specs.CallLines.{line_call};
-ghost use Rattle.player.specs.Texts.{PlaysLine, RunEnded, StatementsHold, TextPlayed, ended_by, passed_over, text_calls};
+ghost use Rattle.player.specs.Texts.{PlaysLine, RunEnded, StatementsHold, TextPlayed, ended_by, text_calls};
 ghost use Rattle.player.specs.declared.LineFault.TheVariants as line;
 
+use call_files::{is_passed_over, read_row};
 use driver::{Device, play_row, play_unread, take_up};
 use flash::PowerFailed;
-use scan::read_line;
+use scan::Lines;
 use session::Session;
 use std::alloc::Global;
 use store::Memory;
-use text::{NoCall, read_call};
-use wire::{MAX_CALL, encode_call};
+use text::NoCall;
+use wire::MAX_CALL;
 
 // Why a line was not played to its end: power failed in one of its acts; or there was no memory to read
 // the line, and nothing was done.
@@ -63,18 +64,7 @@ impl From<LineFault> for Unfinished {
     }
 }
 
-// Is a line passed over: an empty one, or one that begins with `#`.
-pub fn is_passed_over(line: &[u8]) -> bool
-    ensures { result ≡ passed_over line.now }
-{
-    match line {
-        [] => true,
-        [first, ..] => *first == b'#',
-    }
-}
-
-// Plays a line: the call that it is, written as bytes, or what can't be read. A call that a line is can
-// always be written: its numbers have 32 bits, and its list at most 255 of them.
+// Plays a line: the call that it is, or what can't be read.
 fn play_line<D: Device>(
     heap: Global,
     device: &mut D,
@@ -90,18 +80,14 @@ fn play_line<D: Device>(
     ensures played { PlaysLine session.old session.new m.old m.new (line_call line.now) (D.Device.chip device.old) (D.Device.told device.old) (D.Device.chip device.new) (D.Device.told device.new) result }
     ensures size { D.Device.blocks device.new ≡ D.Device.blocks device.old }
 {
-    let read = match read_call(heap, line) {
-        Ok(read) => read,
-        Err(NoCall::Unreadable { place }) => {
-            return Ok(play_unread(device, session, m, page, out, place as u64)?);
-        }
-        Err(NoCall::NoMemory) => return Err(LineFault::NoMemory),
-    };
     let mut row = [0; MAX_CALL];
-    let Some(length) = encode_call(read.call, read.list.as_slice(), &mut row) else {
-        unreachable()
-    };
-    Ok(play_row(device, session, m, page, out, &row[..length])?)
+    match read_row(heap, line, &mut row) {
+        Ok(row) => Ok(play_row(device, session, m, page, out, row)?),
+        Err(NoCall::Unreadable { place }) => {
+            Ok(play_unread(device, session, m, page, out, place as u64)?)
+        }
+        Err(NoCall::NoMemory) => Err(LineFault::NoMemory),
+    }
 }
 
 // Plays the lines of a text, one after the other, until it ends or power fails.
@@ -120,14 +106,12 @@ pub fn play_text<D: Device>(
 {
     let mut page = [0; 512];
     let mut out = [0; 256];
-    let mut rest = text;
-    while !rest.is_empty() {
-        let next = read_line(rest);
-        rest = next.rest;
-        if is_passed_over(next.line) {
+    let mut lines = Lines::new(text);
+    while let Some(line) = lines.next() {
+        if is_passed_over(line) {
             continue;
         }
-        play_line(heap, device, session, m, &mut page, &mut out, next.line)?;
+        play_line(heap, device, session, m, &mut page, &mut out, line)?;
     }
     Ok(())
 }

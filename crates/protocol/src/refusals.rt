@@ -69,7 +69,9 @@ impl Unopened {
 }
 
 impl From<Unopened> for Answer {
-    ghost from_gives = { λ why answer. answer ≡ Answer.Refused 3 (unopened_place why) };
+    ghost use Rattle.protocol.specs.declared.Answer.TheVariants as answers;
+
+    ghost from_gives = { λ why answer. answer ≡ answers.Refused 3 (unopened_place why) };
 
     fn from(why: Unopened) -> Answer {
         Refusal::CannotOpen.at(why.place())

@@ -9,7 +9,7 @@ use Rattle.store.specs.declared.Memory.{Memory}
 use Rattle.store.proofs.Lents.{lent_none, lent_both}
 use Rattle.journal_steps.specs.Steps.{chip_limits}
 use Rattle.driver.proofs.Runs.{all_of, none_done}
-use Rattle.player.specs.Texts.{passed_over}
+use Rattle.call_files.specs.Lines.{passed_over}
 use Rattle.player.proofs.Plays.{owes, step_over, step_call, call_more, line_cut, no_lines, nothing_owed, some_bytes}
 use Rattle.player.proofs.play_text.Goals as goal
 
