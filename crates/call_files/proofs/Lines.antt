@@ -1,7 +1,9 @@
 -- The first line that is not passed over, line by line.
-use Rattle.std.proofs.Common.{◌≡◌, ℕ, zero, suc, ◌-◌, ◌<◌, ◌≤◌, true, false, List, [], ◌∷◌, length, sym, refl, ap, ◌∙◌, ap₂, arith, eqb}
+use Rattle.std.proofs.Common.{◌≡◌, ℕ, zero, suc, ◌-◌, ◌<◌, ◌≤◌, true, false, List, [], ◌∷◌, length, sym, refl, ap, ◌∙◌, ap₂, arith, min, ◌+◌}
+use Rattle.std.proofs.lemmas.List.{length-drop}
+use Rattle.scan.specs.declared.Kind.TheVariants as kind
 use Rattle.meaning.specs.Lines.{pick}
-use Rattle.scan.specs.Words.{line_of, past_line}
+use Rattle.scan.specs.Words.{front, line_of, past_line}
 use Rattle.call_files.specs.Lines.{passed_over}
 use Rattle.call_files.specs.Lines.{first_in}
 
@@ -29,7 +31,6 @@ no_line zero [] e = refl
 no_line (suc n) [] e = refl
 no_line n (b ∷ bs) e = absurd (omega arith)
 
--- a text that is not empty has a byte
-pub some_line : (bs : List ℕ) → eqb (length bs) 0 ≡ false → 0 < length bs
-some_line [] e = let z : ◌≡◌ {A = ℕ} 0 1 = cc in absurd (omega arith)
-some_line (b ∷ bs) e = omega arith
+-- what stands behind a line is shorter
+pub line_shorter : (bs : List ℕ) → 0 < length bs → length (past_line bs) < length bs
+line_shorter bs some = omega (arith, length-drop (min (length bs) (front kind.InLine bs + 1)) bs)
