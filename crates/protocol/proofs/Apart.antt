@@ -22,7 +22,7 @@ five_of (call.Booking k) = k ∷ 0 ∷ 0 ∷ 0 ∷ 0 ∷ []
 five_of (call.Leg i) = i ∷ 0 ∷ 0 ∷ 0 ∷ 0 ∷ []
 
 -- and these are the call taken apart
-five_apart : (c : Call) → TakenApart c (verb_number (verb_of c)) (five_of c)
+pub five_apart : (c : Call) → TakenApart c (verb_number (verb_of c)) (five_of c)
 unfolding call_number
 five_apart (call.Open a b c d) = record { known = lit≤ tt; number_is = λ _. refl; fields_are = λ _. refl; list_is = λ _ _. refl }
 five_apart (call.File a b c n p) = record { known = lit≤ tt; number_is = λ _. refl; fields_are = λ _. refl; list_is = λ _ e. absurd (false≢true e) }

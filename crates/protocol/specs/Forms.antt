@@ -1,12 +1,14 @@
 -- Which call and answer of the meaning a value of the code is, with the list beside it; and the numbers of a call, in the order in which every form writes them. Definitions only.
-use Rattle.std.specs.Prelude.{◌≡◌, ℕ, ◌<◌, ◌≤◌, Bool, true, false, List, [], ◌∷◌, length, get_or, take, Some, None, Option, ◌==◌, slice_index, slice_index_or}
+use Rattle.std.specs.Prelude.{◌≡◌, ℕ, ◌≤◌, Bool, true, false, List, [], ◌∷◌, length, get_or, take, ◌==◌, slice_index, slice_index_or}
 use Rattle.meaning.specs.Lines.{pick}
 use Rattle.meaning.specs.Calls as meaning
 use Rattle.meaning.specs.Calls.{opens, files, books, pays, cancels, limits_to, ticks, free, price_of, booking, leg_is, garbled, refused, number, two, stands_so, sold, call_number}
+use Rattle.protocol.specs.Verbs.{verb_number}
 use Rattle.protocol.specs.declared.Answer.{Answer}
 use Rattle.protocol.specs.declared.Answer.TheVariants as answer
 use Rattle.protocol.specs.declared.Call.{Call}
 use Rattle.protocol.specs.declared.Call.TheVariants as call
+use Rattle.protocol.specs.declared.verbs.Verb.{Verb}
 
 -- the meaning's call, of the code's and the list beside it
 abbrev pub call_of : Call → List ℕ → meaning.Call
@@ -91,10 +93,9 @@ pub record TakenApart (c : Call) (k : ℕ) (fs : List ℕ) : Type 0 where
   pub fields_are : (list : List ℕ) → take (field_count k) fs ≡ fields (call_of c list)
   pub list_is : (list : List ℕ) → has_list k ≡ true → listing (call_of c list) ≡ list
 
--- a call put together from its number and its numbers; there is none beyond 10
-abbrev pub PutTogether : ℕ → List ℕ → Option Call → Type 0
-PutTogether k fs (Some c) = (k ≤ 10) × ((list : List ℕ) → call_of c list ≡ made k fs list)
-PutTogether k fs None = 10 < k
+-- a call put together from its verb and its numbers, whatever list stands beside it
+abbrev pub PutTogether : Verb → List ℕ → Call → Type 0
+PutTogether v fs c = (list : List ℕ) → call_of c list ≡ made (verb_number v) fs list
 
 -- nothing of a call is lost by taking it apart: its number, numbers and list give it back, it has as many numbers as its number says, and a list only where its number says so
 pub record KeptWhole (c : meaning.Call) : Type 0 where

@@ -4,8 +4,8 @@
 // the numbers of a call come, for whoever writes them as bytes or as text.
 #![tactic(auto)]
 
-ghost use Rattle.std.specs.Prelude.{◌≡◌, ℕ, ◌<◌, ◌≤◌, List, Some, None};
-ghost use Rattle.protocol.specs.Forms.{NothingLost, PutTogether, TakenApart, call_of, field_count, has_list, made};
+ghost use Rattle.std.specs.Prelude.{◌≡◌};
+ghost use Rattle.protocol.specs.Forms.{NothingLost, PutTogether, TakenApart};
 ghost use Rattle.protocol.specs.Verbs.{verb_number, verb_of};
 
 mod refusals;
@@ -71,26 +71,6 @@ pub enum Answer {
     Sold,
 }
 
-// How many numbers a call of this number has before its list; no other number is a call's.
-pub fn field_count(number: u8) -> Option<usize>
-    ensures { elim result [ Some n ↦ (number ≤ 10) × (n ≡ field_count number) | None ↦ 10 < number ] }
-{
-    match Verb::try_from(number) {
-        Ok(verb) => Some(verb.field_count()),
-        Err(_) => None,
-    }
-}
-
-// Does a call of this number end in a list.
-pub fn takes_list(number: u8) -> bool
-    ensures { result ≡ has_list number }
-{
-    match Verb::try_from(number) {
-        Ok(verb) => verb.takes_list(),
-        Err(_) => false,
-    }
-}
-
 impl Call {
     // What the call does.
     pub fn verb(self) -> Verb
@@ -143,7 +123,7 @@ impl Call {
 
     // The call of a verb, with these numbers.
     pub fn with(verb: Verb, fields: [u32; 5]) -> Call
-        ensures { (list : List ℕ) → call_of result list ≡ made (verb_number verb) fields list }
+        ensures { PutTogether verb fields result }
     {
         let [a, b, c, d, e] = fields;
         match verb {
@@ -169,23 +149,6 @@ impl Call {
             Verb::Price => Call::Price { class: a },
             Verb::Booking => Call::Booking { booking: a },
             Verb::Leg => Call::Leg { leg: a },
-        }
-    }
-
-    // The call's number, and its numbers in order; what is beyond their count is 0.
-    pub fn parts(self) -> (u8, [u32; 5])
-        ensures { TakenApart self result.0 result.1 }
-    {
-        (self.verb().number(), self.fields())
-    }
-
-    // The call of a number, with these numbers; none beyond 10.
-    pub fn new(number: u8, fields: [u32; 5]) -> Option<Call>
-        ensures { PutTogether number fields result }
-    {
-        match Verb::try_from(number) {
-            Ok(verb) => Some(Call::with(verb, fields)),
-            Err(_) => None,
         }
     }
 }

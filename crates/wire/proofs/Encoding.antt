@@ -1,12 +1,12 @@
 -- The bytes of a call that was taken apart, with a list and without.
-use Rattle.std.proofs.Common.{◌≡◌, ℕ, ◌+◌, ◌*◌, ◌≤◌, true, false, List, [], ◌∷◌, ◌++◌, length, take, sym, refl, ap, ◌∙◌, append-nil, arith, lit≤, length-append}
-use Rattle.meaning.specs.Lines.{pick}
+use Rattle.std.proofs.Common.{◌≡◌, ℕ, ◌+◌, ◌*◌, ◌≤◌, true, false, List, [], ◌∷◌, ◌++◌, length, take, sym, ap, ◌∙◌, subst, append-nil, arith, length-append}
 use Rattle.meaning.specs.Calls.{call_number}
 use Rattle.protocol.specs.Forms.{call_of, fields, listing, field_count, has_list, TakenApart}
 use Rattle.protocol.specs.Verbs.{verb_number, verb_of}
 use Rattle.protocol.specs.declared.verbs.Verb.{Verb}
 use Rattle.protocol.specs.declared.Call.{Call}
-use Rattle.protocol.specs.declared.Call.TheVariants as call
+use Rattle.protocol.proofs.Apart.{five_apart}
+use Rattle.protocol.proofs.Numbers.{known}
 use Rattle.protocol.proofs.Wholes.{nothing_lost}
 use Rattle.wire.specs.Bytes.{row_of}
 use Rattle.wire.specs.Rows.{in_bytes, encoded}
@@ -14,33 +14,7 @@ use Rattle.wire.proofs.Fields.{row_length}
 
 -- every call of the code is one
 pub is_call : (c : Call) (list : List ℕ) → call_number (call_of c list) ≤ 10
-unfolding call_number
-is_call (call.Open a b c d) list = lit≤ tt
-is_call (call.File a b c n p) list = lit≤ tt
-is_call (call.Book c n) list = lit≤ tt
-is_call (call.Pay k) list = lit≤ tt
-is_call (call.Cancel k) list = lit≤ tt
-is_call (call.Limits i) list = lit≤ tt
-is_call (call.Ticks n) list = lit≤ tt
-is_call (call.Free i c) list = lit≤ tt
-is_call (call.Price c) list = lit≤ tt
-is_call (call.Booking k) list = lit≤ tt
-is_call (call.Leg i) list = lit≤ tt
-
--- the list beside a call is its list where it has one
-pub listing_of : (c : Call) (list : List ℕ) → listing (call_of c list) ≡ pick (has_list (call_number (call_of c list))) list []
-unfolding call_number
-listing_of (call.Open a b c d) list = refl
-listing_of (call.File a b c n p) list = refl
-listing_of (call.Book c n) list = refl
-listing_of (call.Pay k) list = refl
-listing_of (call.Cancel k) list = refl
-listing_of (call.Limits i) list = refl
-listing_of (call.Ticks n) list = refl
-listing_of (call.Free i c) list = refl
-listing_of (call.Price c) list = refl
-listing_of (call.Booking k) list = refl
-listing_of (call.Leg i) list = refl
+is_call c list = subst (λ k. k ≤ 10) ((five_apart c).number_is list) (known (verb_of c))
 
 -- the bytes, by the parts
 pub in_bytes_listed : (k : ℕ) (fs list : List ℕ) → true ≡ has_list k → in_bytes k fs list ≡ (k ∷ row_of 4 fs) ++ (length list ∷ row_of 4 list)
@@ -90,7 +64,7 @@ plain c v n fs list is apart e h =
     record {
       row = r;
       long = ap length r ∙ (let w = row_length 4 (take n fs) in omega arith);
-      unlisted = listing_of c list ∙ ap (λ b. pick b list []) (ap has_list (sym (t.number_is list)) ∙ sym h);
+      unlisted = (nothing_lost (call_of c list) (is_call c list)).unlisted (ap has_list (sym (t.number_is list)) ∙ sym h);
       counted = l;
     }
 
@@ -99,7 +73,7 @@ pub listed : (c : Call) (v : Verb) (n : ℕ) (fs list : List ℕ) → v ≡ verb
 listed c v n fs list is apart e h =
     let k : ℕ = verb_number v in
     let t = by_verb c v fs is apart in
-    let own : listing (call_of c list) ≡ list = listing_of c list ∙ ap (λ b. pick b list []) (ap has_list (sym (t.number_is list)) ∙ sym h) in
+    let own : listing (call_of c list) ≡ list = t.list_is list (sym h) in
     let r : encoded (call_of c list) ≡ (k ∷ row_of 4 (take n fs)) ++ (length list ∷ row_of 4 list) =
     by_parts c k n fs list t e ∙ (ap (λ x. in_bytes k (take n fs) x) own ∙ in_bytes_listed k (take n fs) list h) in
     let v = row_length 4 (take n fs) in let w = row_length 4 list in let l = counts c k n fs list t e in
