@@ -1,6 +1,6 @@
 -- Records cut out of a page's numbers, once for records of every width: one more at the end, each by its number, and where its numbers stand in the page.
-use Rattle.std.proofs.Common.{◌≡◌, ℕ, zero, suc, ◌+◌, ◌-◌, ◌*◌, ◌^◌, ◌<◌, ◌≤◌, List, [], ◌∷◌, ◌++◌, length, get_or, take, drop, replicate, sym, refl, ap, ◌∙◌, subst, append_assoc, suc-mul, zero-mul, arith}
-use Rattle.std.proofs.lemmas.List.{drop-drop, get_or_append_left, get_or-append-add, get_or-take, get_or-drop, length-append, length-replicate}
+use Rattle.std.proofs.Common.{◌≡◌, ℕ, zero, suc, ◌+◌, ◌-◌, ◌*◌, ◌^◌, ◌<◌, List, [], ◌∷◌, ◌++◌, length, get_or, take, drop, replicate, sym, refl, ap, ◌∙◌, subst, append_assoc, suc-mul, zero-mul, arith}
+use Rattle.std.proofs.lemmas.List.{drop-drop, get_or_append_left, get_or-append-add, get_or-take, get_or-drop}
 use Rattle.wire.specs.Bytes.{bytes_of, row_of, numbers_in}
 use Rattle.wire.proofs.Fields.{number_back}
 use Rattle.records.specs.Words.{padded}

@@ -4,7 +4,7 @@ use Rattle.std.proofs.lemmas.List.{length-append}
 use Rattle.std.proofs.lemmas.Bool.{and_parts, leb-true}
 use Rattle.meaning.specs.Lines.{Leg, no_leg}
 use Rattle.meaning.specs.House.{Booking}
-use Rattle.meaning.specs.Calls.{good_fields, good_limits}
+use Rattle.meaning.specs.Calls.{good_fields}
 use Rattle.records.specs.Words.{padded}
 use Rattle.journal.specs.Slots.{AllOf}
 use Rattle.journal_rows.specs.Layout.{some_legs, some_bookings, FineLeg, FineBooking}
