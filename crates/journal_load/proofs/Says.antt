@@ -1,16 +1,13 @@
 -- The page of a call.
-use Rattle.std.proofs.Common.{◌≡◌, ℕ, ◌^◌, ◌<◌, ◌≤◌, Bool, true, false, ◌&&◌, eqb, ltb, leb, List, length, get_or, take, drop, refl, ap, ◌∙◌, arith}
-use mathlib.Core.Option.{Option, none, some}
-use Rattle.std.proofs.lemmas.Bool.{and_parts, eqb-true, leb-true}
-use Rattle.meaning.specs.Lines.{pick, Leg, Fare}
-use Rattle.meaning.specs.House.{Booking}
+use Rattle.std.proofs.Common.{◌≡◌, ℕ, ◌^◌, ◌<◌, ◌≤◌, true, ◌&&◌, ltb, leb, List, length, refl, ap, ◌∙◌, arith}
+use Rattle.std.proofs.lemmas.Bool.{and_parts, leb-true}
 use Rattle.meaning.specs.Calls.{Call, opens, files, books, pays, cancels, limits_to, ticks, free, price_of, booking, leg_is, garbled, call_number, good_fields, good_limits}
 use Rattle.wire.specs.Bytes.{bytes_of, row_of, numbers_in}
-use Rattle.wire.specs.Rows.{in_bytes, encoded, decoded}
+use Rattle.wire.specs.Rows.{in_bytes, encoded}
 use Rattle.wire.proofs.Fields.{row_length, number_back}
 use Rattle.store.proofs.Ranges.{limits_tell}
-use Rattle.journal_rows.specs.Layout.{Op, taken_call, some_legs, some_fares, some_bookings, is_change, Fine}
-use Rattle.journal_rows.specs.Bytes.{row_leg, row_fare, row_booking, cut, call_page, row, unrow}
+use Rattle.journal_rows.specs.Layout.{taken_call, is_change, Fine}
+use Rattle.journal_rows.specs.Bytes.{call_page, row}
 use Rattle.journal_rows.specs.Sorts.{kind_in as kind, count_in as count}
 
 -- the page of a call has kind 5 and counts the call's bytes

@@ -11,7 +11,7 @@ use Rattle.journal_rows.specs.Bytes.{row, page_bytes}
 use Rattle.journal_load.specs.Pages.{head_of, Loaded}
 use Rattle.journal_load.specs.declared.CommitRecord.{CommitRecord}
 use Rattle.journal_rows.specs.Sorts.{leg_sort, fare_sort, booking_sort, NoneSo}
-use Rattle.journal_rows.proofs.Cuts.{all_map, all_take, all_drop}
+use Rattle.journal_rows.proofs.Every.{all_from, all_take, all_drop}
 use Rattle.journal_load.proofs.Sorts.{Grown}
 
 -- how many a handful from a place on has
@@ -22,7 +22,7 @@ handful w j xs = length-take w (drop j xs) ∙ ap (min w) (length-drop j xs)
 booking_among : (n m : ℕ) → n ≤ m → (b : Booking) → FineBooking n b → FineBooking m b
 booking_among n m h b f = record {
   fields = f.fields;
-  there = all_map (λ (i : ℕ). i < n) (λ (i : ℕ). i < m) (λ i l. omega arith) b.legs f.there;
+  there = all_from (λ (i : ℕ). i < n) (λ (i : ℕ). i < m) (λ i l. omega arith) b.legs f.there;
   apart = f.apart;
   stands = f.stands;
   until = f.until;
@@ -94,7 +94,7 @@ module _ (c : CommitRecord) (l : Limits) (h : House) (good : Good l h) (e : head
       let xs : List Booking = take 8 (drop i h.bookings) in
       let all : AllOf (FineBooking (length h.legs)) xs = all_take (FineBooking (length h.legs)) 8 (drop i h.bookings) (all_drop (FineBooking (length h.legs)) i h.bookings good.fine_bookings) in
       none xs
-      (omega (arith, k), all_map (FineBooking (length h.legs)) (FineBooking 65536) (booking_among (length h.legs) 65536 (omega (arith, good.few_legs, good.sizes.3))) xs all)
+      (omega (arith, k), all_from (FineBooking (length h.legs)) (FineBooking 65536) (booking_among (length h.legs) 65536 (omega (arith, good.few_legs, good.sizes.3))) xs all)
       (subst (λ (v : ℕ). AllOf (FineBooking v) xs) (legs_so ∙ sym so) all)
       (omega (arith, k, m, legs_so, fares_so, bookings_so))
       (is ∙ ap row (page_of_bookings h j (omega (arith, legs_so)) (omega (arith, legs_so, fares_so)))) r

@@ -1,5 +1,5 @@
 -- What the pages of a journal bring to memory: a commit record, the pages of a checkpoint, and the bytes of a call. Definitions only: nothing is assumed or proved here.
-use Rattle.std.specs.Prelude.{◌≡◌, ℕ, ◌+◌, ◌-◌, ◌*◌, ◌<◌, ◌≤◌, min, List, length, Some, None, Option, ◌≢◌}
+use Rattle.std.specs.Prelude.{◌≡◌, ℕ, ◌-◌, ◌*◌, ◌<◌, ◌≤◌, min, List, length, Some, None, Option, ◌≢◌}
 use Rattle.std.proofs.Math.Option as plain
 use Rattle.std.specs.Borrow.{Bor}
 use Rattle.limits.specs.Opening.{limits_mean}

@@ -7,6 +7,7 @@ use Rattle.records.specs.declared.Booking.{Booking}
 use Rattle.records.specs.Means.{leg_means, booking_means}
 use Rattle.records.specs.Words.{padded}
 use Rattle.journal_rows.specs.Bytes.{leg_row, booking_row}
+use Rattle.journal_rows.proofs.ReadBack.{length_padded}
 
 -- a part right behind a front
 behind : (a k : ℕ) (h r ys : List ℕ) → length h ≡ a → put_mid a k (h ++ r) ys ≡ h ++ (ys ++ drop k r)
@@ -18,10 +19,6 @@ among a m k h t ys e n l =
     let zeros : drop k (replicate m 0 ++ t) ≡ replicate (m - length ys) 0 ++ t =
     drop-append-le k (replicate m 0) t (omega (arith, length-replicate {A = ℕ} m 0)) ∙ ap (λ x. x ++ t) (drop-replicate k m 0 ∙ ap (λ x. replicate (m - x) 0) n) in
     behind a k h (replicate m 0 ++ t) ys e ∙ (ap (λ x. h ++ (ys ++ x)) zeros ∙ (ap (λ x. h ++ x) (sym (append_assoc ys (replicate (m - length ys) 0) t)) ∙ sym (append_assoc h (padded m ys) t)))
-
--- numbers with zeros behind them fill their places
-padded_long : (m : ℕ) (xs : List ℕ) → length xs ≤ m → length (padded m xs) ≡ m
-padded_long m xs l = length-append xs (replicate (m - length xs) 0) ∙ omega (arith, length-replicate {A = ℕ} (m - length xs) 0)
 
 -- a leg's: five numbers, then its limits
 pub leg_put : (g : Leg) (k : ℕ) (h ys : List ℕ) → g.classes ≤ 26 → length g.limits ≡ 26 → k ≡ g.classes → h ≡ g.from ∷ (g.to ∷ (g.leaves ∷ (g.arrives ∷ (g.classes ∷ [])))) → ys ≡ take g.classes g.limits →
@@ -39,7 +36,7 @@ booking_put b k h ys ts l w n e f t =
     let c : length (take b.count b.legs) ≡ b.count = length-take-le b.count b.legs (omega arith) in
     let m : length ys ≡ b.count = ap length f ∙ c in
     let five : length h ≡ 5 = ap length e in
-    let long : length (h ++ padded 8 ys) ≡ 13 = length-append h (padded 8 ys) ∙ omega (arith, padded_long 8 ys (omega arith)) in
+    let long : length (h ++ padded 8 ys) ≡ 13 = length-append h (padded 8 ys) ∙ omega (arith, length_padded 8 ys (omega arith)) in
     ap (λ z. put_mid 13 2 z ts) (among 5 8 k h (0 ∷ (0 ∷ [])) ys (ap length e) (omega arith) (omega arith))
     ∙ (behind 13 2 (h ++ padded 8 ys) (0 ∷ (0 ∷ [])) ts long
     ∙ (ap (λ z. (h ++ padded 8 ys) ++ z) (append-nil ts)
@@ -48,13 +45,9 @@ booking_put b k h ys ts l w n e f t =
 
 -- how many there are
 pub leg_long : (g : Leg) → g.classes ≤ 26 → length (leg_row (leg_means g)) ≡ 31
-leg_long g l = ap (λ z. suc (suc (suc (suc (suc z))))) (padded_long 26 (take g.classes g.limits) (omega (arith, length-take g.classes g.limits)))
+leg_long g l = ap (λ z. suc (suc (suc (suc (suc z))))) (length_padded 26 (take g.classes g.limits) (omega (arith, length-take g.classes g.limits)))
 
 pub booking_long : (b : Booking) → b.count ≤ 8 → length (booking_row (booking_means b)) ≡ 15
 booking_long b l =
-    let n : length (padded 8 (take b.count b.legs)) ≡ 8 = padded_long 8 (take b.count b.legs) (omega (arith, length-take b.count b.legs)) in
+    let n : length (padded 8 (take b.count b.legs)) ≡ 8 = length_padded 8 (take b.count b.legs) (omega (arith, length-take b.count b.legs)) in
     ap (λ z. suc (suc (suc (suc (suc z))))) (length-append (padded 8 (take b.count b.legs)) (b.paid % 4294967296 ∷ (b.paid / 4294967296 ∷ [])) ∙ omega arith)
-
--- a part from the start
-pub from_start : (n : ℕ) (xs : List ℕ) → take (n - 0) xs ≡ take n xs
-from_start n xs = let e : n - 0 ≡ n = omega arith in ap (λ z. take z xs) e

@@ -1,6 +1,6 @@
 -- Records cut out of a page's numbers, once for records of every width: one more at the end, each by its number, and where its numbers stand in the page.
-use Rattle.std.proofs.Common.{◌≡◌, ℕ, zero, suc, ◌+◌, ◌-◌, ◌*◌, ◌^◌, ◌<◌, ◌≤◌, List, [], ◌∷◌, ◌++◌, length, get_or, take, drop, replicate, sym, refl, ap, ◌∙◌, subst, append_assoc, suc-mul, zero-mul, arith}
-use Rattle.std.proofs.lemmas.List.{drop-drop, get_or_append_left, get_or-append-add, get_or-take, get_or-drop, length-append, length-replicate}
+use Rattle.std.proofs.Common.{◌≡◌, ℕ, zero, suc, ◌+◌, ◌-◌, ◌*◌, ◌^◌, ◌<◌, List, [], ◌∷◌, ◌++◌, length, get_or, take, drop, replicate, sym, refl, ap, ◌∙◌, subst, append_assoc, suc-mul, zero-mul, arith}
+use Rattle.std.proofs.lemmas.List.{drop-drop, get_or_append_left, get_or-append-add, get_or-take, get_or-drop}
 use Rattle.wire.specs.Bytes.{bytes_of, row_of, numbers_in}
 use Rattle.wire.proofs.Fields.{number_back}
 use Rattle.records.specs.Words.{padded}
@@ -14,35 +14,6 @@ unfolding AllOf
 all_at P [] a k d h = absurd (omega arith)
 all_at P (x ∷ xs) a zero d h = a.0
 all_at P (x ∷ xs) a (suc k) d h = all_at P xs a.1 k d (omega arith)
-
--- and of one more
-pub all_push : {X : Type 0} (P : X → Type 0) (xs : List X) (x : X) → AllOf P xs → P x → AllOf P (xs ++ (x ∷ []))
-unfolding AllOf
-all_push P [] x a h = (h, tt)
-all_push P (y ∷ xs) x a h = (a.0, all_push P xs x a.1 h)
-
-pub all_none : {X : Type 0} (P : X → Type 0) → AllOf P []
-unfolding AllOf
-all_none P = tt
-
--- and what follows from it holds of all
-pub all_map : {X : Type 0} (P Q : X → Type 0) → ((x : X) → P x → Q x) → (xs : List X) → AllOf P xs → AllOf Q xs
-unfolding AllOf
-all_map P Q f [] a = tt
-all_map P Q f (x ∷ xs) a = (f x a.0, all_map P Q f xs a.1)
-
--- of a part of a list
-pub all_take : {X : Type 0} (P : X → Type 0) (n : ℕ) (xs : List X) → AllOf P xs → AllOf P (take n xs)
-unfolding AllOf
-all_take P zero xs a = tt
-all_take P (suc n) [] a = tt
-all_take P (suc n) (x ∷ xs) a = (a.0, all_take P n xs a.1)
-
-pub all_drop : {X : Type 0} (P : X → Type 0) (n : ℕ) (xs : List X) → AllOf P xs → AllOf P (drop n xs)
-unfolding AllOf
-all_drop P zero xs a = a
-all_drop P (suc n) [] a = tt
-all_drop P (suc n) (x ∷ xs) a = all_drop P n xs a.1
 
 module _ {X : Type 0} (u : List ℕ → X) (w : ℕ) where
   pub cut_length : (n : ℕ) (ns : List ℕ) → length (cut u w n ns) ≡ n
@@ -93,9 +64,6 @@ at_filled : (ms : List ℕ) (n i : ℕ) → get_or (ms ++ replicate n 0) i 0 ≡
 at_filled [] n i = at_zeros n i
 at_filled (m ∷ ms) n zero = refl
 at_filled (m ∷ ms) n (suc i) = at_filled ms n i
-
-pub padded_length : (n : ℕ) (xs : List ℕ) → length xs ≤ n → length (padded n xs) ≡ n
-padded_length n xs h = length-append xs (replicate (n - length xs) 0) ∙ omega (arith, length-replicate {A = ℕ} (n - length xs) 0)
 
 -- number j of record k, in rows of w numbers each
 rows_at : {X : Type 0} (f : X → List ℕ) (w : ℕ) (xs : List X) → AllOf (λ x. length (f x) ≡ w) xs → (k j : ℕ) (d : X) → k < length xs → j < w →

@@ -43,7 +43,8 @@ small_zeros (suc n) = (omega arith, small_zeros n)
 small_padded : (n : ℕ) (xs : List ℕ) → AllOf Small xs → AllOf Small (padded n xs)
 small_padded n xs f = all_join Small xs _ f (small_zeros (n - length xs))
 
-length_padded : (n : ℕ) (ns : List ℕ) → length ns ≤ n → length (padded n ns) ≡ n
+-- numbers with zeros behind them fill their places
+pub length_padded : (n : ℕ) (ns : List ℕ) → length ns ≤ n → length (padded n ns) ≡ n
 length_padded n ns h = simp (length-append, length-replicate) (omega arith)
 
 -- the numbers of a page are those that were written, and zeros

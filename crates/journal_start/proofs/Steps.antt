@@ -1,5 +1,5 @@
 -- What one page more makes of a start in code: a stage after the checkpoint, a page of the checkpoint that is refused, and pages of the log.
-use Rattle.std.proofs.Common.{◌≡◌, ℕ, suc, ◌+◌, ◌-◌, ◌*◌, ◌/◌, ◌<◌, ◌≤◌, Bool, true, false, eqb, List, length, Option, sym, refl, ap, ◌∙◌, subst, add-one, arith, Bor}
+use Rattle.std.proofs.Common.{◌≡◌, ℕ, suc, ◌+◌, ◌-◌, ◌*◌, ◌/◌, ◌<◌, ◌≤◌, Bool, true, false, eqb, List, length, Option, sym, refl, ap, ◌∙◌, subst, add-one, arith}
 use mathlib.Core.Option as plain
 use Rattle.std.proofs.lemmas.Bool.{and_parts, both_ways, eqb-true, le-ltb}
 use Rattle.meaning.specs.Lines.{pick}

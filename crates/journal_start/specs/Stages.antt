@@ -1,5 +1,5 @@
 -- How far a start in code has come, as the journal says it; what it then holds true of memory; and what taking one page more brings. Definitions only: nothing is assumed or proved here.
-use Rattle.std.specs.Prelude.{◌≡◌, ℕ, ◌*◌, ◌<◌, ◌≤◌, Bool, Some, None, Option, Ok, Err, Result}
+use Rattle.std.specs.Prelude.{◌≡◌, ℕ, ◌*◌, ◌<◌, Bool, Some, None, Option, Ok, Err, Result}
 use Rattle.std.proofs.Math.Option as plain
 use Rattle.meaning.specs.House.{House}
 use Rattle.meaning.specs.Calls as calls
@@ -14,7 +14,7 @@ use Rattle.every_call.specs.Stage.{Idle, stage}
 use Rattle.journal.specs.Codes.{turn_of, is_second}
 use Rattle.journal.specs.Slots.{Commit, Journal, commit_of}
 use Rattle.journal.specs.Start as start
-use Rattle.journal_rows.specs.Layout.{Head, house, slot_blocks, ring_blocks, most_pages, pages, rows}
+use Rattle.journal_rows.specs.Layout.{Head, house, slot_blocks, ring_blocks, pages, rows}
 use Rattle.journal_rows.specs.Bytes.{page_bytes}
 use Rattle.journal_load.specs.declared.CommitRecord.{CommitRecord}
 use Rattle.journal_load.specs.Pages.{commit_told, head_of, Within, IsWithin, Loaded}

@@ -1,5 +1,5 @@
 -- Each turn puts one record right behind the others.
-use Rattle.std.proofs.Common.{◌≡◌, ℕ, ◌+◌, ◌-◌, ◌*◌, ◌≤◌, min, List, [], ◌∷◌, length, take, drop, sym, ap, ◌∙◌, arith}
+use Rattle.std.proofs.Common.{◌≡◌, ℕ, ◌+◌, ◌-◌, ◌*◌, min, [], ◌∷◌, length, take, drop, sym, ap, ◌∙◌, arith}
 use Rattle.store.specs.Whole.{house}
 use Rattle.wire.specs.Bytes.{row_of}
 use Rattle.wire.proofs.Fields.{row_length}

@@ -1,8 +1,7 @@
 -- No page of so many records, a record that can't be one, or all of them pushed.
-use Rattle.std.proofs.Common.{◌≡◌, ℕ, ap, ◌∙◌, subst, arith}
+use Rattle.std.proofs.Common.{◌≡◌, ℕ, ap, ◌∙◌, arith}
 use Rattle.std.proofs.lemmas.Result.{err_from_is_err_and}
 use Rattle.limits.specs.declared.Limits.{Limits}
-use Rattle.meaning.specs.House.{House}
 use Rattle.store.specs.Whole.{house}
 use Rattle.store.proofs.Lents.{lent_none, lent_both}
 use Rattle.journal_rows.specs.Kinds.{kind_number}
