@@ -12,7 +12,7 @@ use Rattle.protocol.specs.Forms.{call_of}
 use Rattle.protocol.specs.declared.Answer.TheVariants as answer
 use Rattle.protocol.specs.declared.Call.{Call}
 use Rattle.questions.specs.declared.Reply.{Reply}
-use Rattle.store.specs.Whole.{Sound, house}
+use Rattle.store.specs.Whole.{house}
 use Rattle.store.specs.declared.Memory.{Memory}
 use Rattle.text.proofs.Fits.{line_fits}
 use Rattle.text.specs.CallLines.{line_call}
@@ -44,8 +44,8 @@ reads_as line list old new n c e w =
     ap decoded bytes ∙ (calls_come_back (call_of c list) (can_be_written line list c e) ∙ sym e)
 
 -- a line that is no call is answered as one that can't be read, and changes nothing
-pub not_a_call : (m : Memory) (line list : List ℕ) (n : NoCall) (r : Result Reply AllocError) → Reached (stage m) (house m) → Sound m →
+pub not_a_call : (m : Memory) (line list : List ℕ) (n : NoCall) (r : Result Reply AllocError) → Reached (stage m) (house m) →
     LineTold (Err n) (line_call line) → LineRefused n r → LineDone m m line list r
-not_a_call m line list (no_call.Unreadable place) r reached sound e f =
-    subst (LineDone m m line list) (sym f) (subst (λ x. Done thin m m x (answer.Refused 1 place) []) (sym e) (not_read thin m (answer.Refused 1 place) place refl (idle (stage m) m reached) sound), lit≤ tt)
-not_a_call m line list no_call.NoMemory r reached sound e f = subst (LineDone m m line list) (sym f) refl
+not_a_call m line list (no_call.Unreadable place) r reached e f =
+    subst (LineDone m m line list) (sym f) (subst (λ x. Done thin m m x (answer.Refused 1 place) []) (sym e) (not_read thin m (answer.Refused 1 place) place refl (idle (stage m) m reached)), lit≤ tt)
+not_a_call m line list no_call.NoMemory r reached e f = subst (LineDone m m line list) (sym f) refl

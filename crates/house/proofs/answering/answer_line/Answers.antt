@@ -8,7 +8,7 @@ use Rattle.house.proofs.Lines.{some_bytes, reads_as, not_a_call}
 use Rattle.house.proofs.answering.answer_line.Goals as goal
 
 pub returns-in-Err : goal.returns-in-Err
-returns-in-Err c = not_a_call c.args.m.now c.args.line.now c.args.sold.now c.in-Err.unread c.refuse_line.result c.requires.reached c.requires.sound c.in-Err.ensures c.refuse_line.ensures
+returns-in-Err c = not_a_call c.args.m.now c.args.line.now c.args.sold.now c.in-Err.unread c.refuse_line.result c.requires.reached c.in-Err.ensures c.refuse_line.ensures
 
 pub unreachable-requires : goal.unreachable-requires
 unreachable-requires c =
@@ -16,7 +16,7 @@ unreachable-requires c =
     some_bytes c.args.line.now c.as_slice.result.now _ _ c.in-Ok.read.call means refl c.in_default.ensures
 
 pub answer_row-requires : goal.answer_row-requires
-answer_row-requires c = record { sound = c.requires.sound; idle = idle (stage c.args.m.now) c.args.m.now c.requires.reached }
+answer_row-requires c = record { idle = idle (stage c.args.m.now) c.args.m.now c.requires.reached }
 
 pub returns : goal.returns
 returns c =
