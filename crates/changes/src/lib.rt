@@ -127,11 +127,11 @@ fn is_over(m: &Memory, k: usize, tick: u32) -> bool
 }
 
 // Each booking that is over at a tick is gone.
-// Kept: (a) bookings are in lent words, so they are gone through by number.
 fn run_out(m: &mut Memory, tick: u32)
     ensures house { house m.new ≡ gone_at tick (house m.old) }
     ensures lent { Lent m.old m.new }
 {
+    // Kept: (a) bookings are in lent words, so they are gone through by number.
     for k in 0..m.booking_count() {
         if is_over(m, k, tick) {
             m.set_stand(k, GONE, 0);

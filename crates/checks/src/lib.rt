@@ -13,7 +13,7 @@ ghost use Rattle.checks.specs.Lists.{LimitsRead, ListRead, leg_there, legs_join}
 use arrayvec::ArrayVec;
 use records::{Fare, Leg};
 use store::Memory;
-use wire::{leg_at, leg_count};
+use wire::{first_numbers, leg_count};
 
 // Between which places a leg goes, and when it leaves and arrives.
 #[derive(Clone, Copy)]
@@ -88,16 +88,13 @@ pub fn fare_in_range(fare: &Fare) -> bool
 fn read_list<const N: usize>(part: &[u8]) -> Option<ArrayVec<u32, N>>
     ensures { ListRead N part.now result }
 {
-    let mut list = ArrayVec::new();
-    for i in 0..leg_count(part) {
-        let Some(number) = leg_at(part, i) else {
-            unreachable()
-        };
-        list.try_push(number).ok()?;
-    }
-    if list.is_empty() {
+    let count = leg_count(part);
+    if count == 0 || count > N {
         return None;
     }
+    let numbers = first_numbers::<N>(part);
+    let mut list = ArrayVec::new();
+    list.try_extend_from_slice(&numbers[..count]).ok()?;
     Some(list)
 }
 

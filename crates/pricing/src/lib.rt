@@ -73,7 +73,6 @@ fn piece_price(m: &Memory, class: u32, part: &[u32]) -> Option<u64>
         .min()
 }
 
-// Kept: (a) the cheapest price is a recursion over the legs left, and each first piece leaves some.
 // The cheapest over all ways to cut a journey: over each first piece, of one leg and so many more,
 // with the cheapest for the legs left behind it, which are fewer. No legs cost nothing. Each piece
 // costs at most 100,000,000, so the sums are far from running over.
@@ -86,6 +85,7 @@ fn cheapest(m: &Memory, class: u32, journey: &[u32]) -> Option<u64>
     if journey.is_empty() {
         return Some(0);
     }
+    // Kept: (a) the cheapest price is a recursion over the legs that each first piece leaves.
     let mut best = None;
     for more in 0..journey.len() {
         let (part, left) = journey.split_at(1 + more);

@@ -43,6 +43,6 @@ returns-in-Some c =
       next =
           past_at m n c.new-layout.result.limits c.replay_on-in-Written.result c.args.in_use (c.args.n + 1) _ ((c.new-layout.ensures ∙ c.limits.ensures) ∙ sym d.lent.limits) d.lent r.reading r.ranges r.past d.idle
           (call_done m c.args.in_use c.args.n (page_told c.args.page) n c.in-Written.bytes.now (decoded c.in-Some.part.now) (ap page_told c.in-Written.is) c.in-Some.ensures.0 d.leaves);
-      sound = d.sound;
+      sound = c.answer_row.new.m.sound;
       lent = d.lent;
     }
