@@ -14,7 +14,7 @@ use chips::{MemoryChip, Said};
 use every_call::answer_row;
 use flash::Power;
 use limits::{Limits, Sizes};
-use player::{Ending, run};
+use player::{Unfinished, run};
 use scan::read_line;
 use std::alloc::{AllocError, Global};
 use store::{Memory, open};
@@ -47,7 +47,7 @@ pub struct Bench {
 // How a life ended, the answers that were given in it, and how many acts were left to the failure.
 #[derive(Drop)]
 pub struct Life {
-    pub ending: Ending,
+    pub ending: Result<(), Unfinished>,
     pub said: Vec<Said>,
     pub left: u64,
 }
@@ -78,11 +78,8 @@ fn answer_line(heap: Global, m: &mut Memory, line: &[u8]) -> anyhow::Result<Said
     };
     let mut sold = [0; 26];
     let reply = answer_row(m, &row[..length], &mut sold);
-    Ok(Said {
-        answer: reply.answer,
-        sold,
-        listed: reply.listed,
-    })
+    Said::new(reply.answer, &sold[..reply.listed])
+        .ok_or_else(|| anyhow!("a list that is longer than any answer's"))
 }
 
 // Plays at most so many lines on a house in memory, and records the answers.
