@@ -1,6 +1,6 @@
 // What the line of a call is answered.
 ghost use Rattle.meaning.specs.Statements.{Reached};
-ghost use Rattle.store.specs.Whole.{Sound, house};
+ghost use Rattle.store.specs.Whole.{house};
 ghost use Rattle.calls.specs.Stage.{stage};
 ghost use Rattle.house.specs.Answering.{LineDone, LineRefused};
 
@@ -33,8 +33,7 @@ pub fn answer_line(
     line: &[u8],
     sold: &mut [u64; 26],
 ) -> Result<Reply, AllocError>
-    requires sound { Sound m.old }
-    requires reached { Reached (stage m.old) (house m.old) }
+    requires { Reached (stage m.old) (house m.old) }
     ensures { LineDone m.old m.new line.now sold.new result }
 {
     let mut row = [0; MAX_CALL];

@@ -16,7 +16,7 @@ use driver::Device;
 use file_chip::{Fault, FileChip};
 use flash::Power;
 use opening::{chip_bytes, first_line, limits_of, open_house, whole_chip};
-use player::{Ending, run};
+use player::{Unfinished, run};
 use protocol::Answer;
 use std::alloc::{AllocError, Global};
 use std::fs::File;
@@ -53,7 +53,7 @@ fn open_pages(rt: &HostRuntime, path: &str, length: u64) -> io::Result<File> {
 // Prints the answer to an opening that is refused, unless power fails in that act.
 fn refuse_opening(rt: &HostRuntime, power: Power, answer: Answer) -> io::Result<()> {
     let mut power = power;
-    if power.fails() {
+    if power.spend().is_err() {
         return Ok(());
     }
     let line = AnswerLine { answer, list: &[] };
@@ -66,7 +66,7 @@ fn play_house<D: Device>(
     device: &mut D,
     house: HouseLine,
     text: &[u8],
-) -> Result<Ending, AllocError>
+) -> Result<Result<(), Unfinished>, AllocError>
     requires memory { memory_suffices house ≡ true }
     requires times { times_fit house ≡ true }
     requires size { room_for (chip_limits (limits_in house)) ≤ D.Device.blocks device.old }
@@ -86,12 +86,16 @@ fn play_house<D: Device>(
 
 // What is left to do when a run has ended: a chip that is no house's is refused, and what went wrong
 // outside of the chip is told.
-fn close<'a>(chip: &mut FileChip<'_>, ending: Ending, path: &'a str) -> Result<(), Trouble<'a>> {
-    match ending {
-        Ending::Done => return Ok(()),
-        Ending::NoMemory => return Err(Trouble::NoMemory),
-        Ending::PowerFailed => {}
-        Ending::Refused => {
+fn close<'a>(
+    chip: &mut FileChip<'_>,
+    ended: Result<(), Unfinished>,
+    path: &'a str,
+) -> Result<(), Trouble<'a>> {
+    match ended {
+        Ok(()) => return Ok(()),
+        Err(Unfinished::NoMemory) => return Err(Trouble::NoMemory),
+        Err(Unfinished::PowerFailed) => {}
+        Err(Unfinished::Refused) => {
             let _ = chip.say(
                 Answer::Refused {
                     refusal: 3,
@@ -131,7 +135,7 @@ fn play<'a>(
     };
     let mut chip = FileChip::new(outside, file, pages.as_mut_slice(), arguments.power);
     match play_house(rt.alloc(), &mut chip, house, text) {
-        Ok(ending) => close(&mut chip, ending, arguments.pages),
+        Ok(ended) => close(&mut chip, ended, arguments.pages),
         Err(_) => Err(Trouble::NoMemory),
     }
 }

@@ -10,17 +10,18 @@ ghost use Rattle.every_call.specs.Stage.{Idle};
 ghost use Rattle.journal_steps.specs.Steps.{chip_limits};
 
 use anyhow::anyhow;
+use call_files::read_row;
 use calls::answer_row;
 use chips::{MemoryChip, Said};
 use every_call::EveryCall;
 use flash::Power;
 use limits::{Limits, Sizes};
-use player::{Ending, run};
+use player::{Unfinished, run};
 use scan::read_line;
 use std::alloc::{AllocError, Global};
 use store::{Memory, open};
-use text::{NoCall, read_call};
-use wire::{MAX_CALL, encode_call};
+use text::NoCall;
+use wire::MAX_CALL;
 
 // The bytes of a block in memory: sixteen pages of 513.
 pub const BLOCK: usize = 8208;
@@ -48,7 +49,7 @@ pub struct Bench {
 // How a life ended, the answers that were given in it, and how many acts were left to the failure.
 #[derive(Drop)]
 pub struct Life {
-    pub ending: Ending,
+    pub ending: Result<(), Unfinished>,
     pub said: Vec<Said>,
     pub left: u64,
 }
@@ -68,22 +69,16 @@ fn answer_line(heap: Global, m: &mut Memory, line: &[u8]) -> anyhow::Result<Said
     ensures sound { Sound m.new }
     ensures idle { Idle m.new }
 {
-    let read = match read_call(heap, line) {
-        Ok(read) => read,
-        Err(NoCall::Unreadable { place: _place }) => return Err(anyhow!("a line that is no call")),
+    let mut bytes = [0; MAX_CALL];
+    let row = match read_row(heap, line, &mut bytes) {
+        Ok(row) => row,
+        Err(NoCall::Unreadable { .. }) => return Err(anyhow!("a line that is no call")),
         Err(NoCall::NoMemory) => return Err(anyhow!("no memory to read a line")),
     };
-    let mut row = [0; MAX_CALL];
-    let Some(length) = encode_call(read.call, read.list.as_slice(), &mut row) else {
-        return Err(anyhow!("a call that can't be written"));
-    };
     let mut sold = [0; 26];
-    let reply = answer_row::<EveryCall>(m, &row[..length], &mut sold);
-    Ok(Said {
-        answer: reply.answer,
-        sold,
-        listed: reply.listed,
-    })
+    let reply = answer_row::<EveryCall>(m, row, &mut sold);
+    Said::new(reply.answer, &sold[..reply.listed])
+        .ok_or_else(|| anyhow!("a list that is longer than any answer's"))
 }
 
 // Plays at most so many lines on a house in memory, and records the answers.

@@ -8,7 +8,7 @@ pub mod mishaps;
 
 use anyhow::anyhow;
 use limits::Limits;
-use player::Ending;
+use player::Unfinished;
 use power_bench::{Bench, NEVER, ROW, fill_page};
 use power_stories::{Story, skip_lines};
 use protocol::Answer;
@@ -105,7 +105,7 @@ fn expect_refused(rt: &HostRuntime, bench: &mut Bench) -> anyhow::Result<()> {
     let mut before = Vec::new(rt.alloc());
     before.extend_from_slice(bench.pages())?;
     let life = bench.live(rt.alloc(), NEVER, "leg 0\n".as_bytes())?;
-    let Ending::Refused = life.ending else {
+    let Err(Unfinished::Refused) = life.ending else {
         return Err(anyhow!("a chip of no house is taken"));
     };
     if !life.said.is_empty() || before.as_slice() != bench.pages() {

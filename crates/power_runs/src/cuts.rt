@@ -2,7 +2,6 @@
 // row.
 use anyhow::anyhow;
 use flash::Power;
-use player::Ending;
 use power_bench::{Bench, NEVER};
 use power_stories::Story;
 
@@ -51,7 +50,7 @@ fn count_acts(
         tear: [0; 16],
     };
     let life = bench.live(rt.alloc(), power, story.rest(known))?;
-    let Ending::Done = life.ending else {
+    let Ok(()) = life.ending else {
         return Err(anyhow!("the list is not played to its end"));
     };
     story.compare_given(rt, power, known, life.said.as_slice())?;

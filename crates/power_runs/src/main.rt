@@ -12,7 +12,6 @@ use anyhow::anyhow;
 use cuts::{Tally, cut_again, cut_everywhere};
 use flash::Power;
 use limits::Limits;
-use player::Ending;
 use power_bench::{Bench, NEVER};
 use power_lists::{FIRST_STAGE, LARGER, QUESTIONS, WORKED_EXAMPLE, with_bookings, with_questions};
 use power_others::mishaps::play_mishaps;
@@ -78,7 +77,7 @@ fn play_next(
 ) -> anyhow::Result<()> {
     let line = read_line(story.rest(known)).line;
     let life = bench.live(rt.alloc(), NEVER, line)?;
-    let Ending::Done = life.ending else {
+    let Ok(()) = life.ending else {
         return Err(anyhow!("a call is not played"));
     };
     story.compare_given(rt, NEVER, known, life.said.as_slice())

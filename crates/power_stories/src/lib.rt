@@ -8,7 +8,7 @@ ghost use Rattle.power_stories.specs.Stories.{behind};
 use anyhow::anyhow;
 use chips::Said;
 use flash::Power;
-use player::Ending;
+use player::Unfinished;
 use power_bench::{Bench, Life, NEVER};
 use scan::read_line;
 use std::alloc::Global;
@@ -47,7 +47,7 @@ pub fn skip_lines(text: &[u8], count: usize) -> &[u8]
 
 // Is an answer this one.
 fn is_same(a: &Said, b: &Said) -> bool {
-    a.answer == b.answer && a.listed == b.listed && a.sold == b.sold
+    a == b
 }
 
 // The place of the first answer in which two lists differ.
@@ -73,10 +73,9 @@ pub fn print_answer(
 ) -> anyhow::Result<()> {
     match said.get(place) {
         Some(one) => {
-            let listed = one.listed.min(26);
             let line = AnswerLine {
                 answer: one.answer,
-                list: &one.sold[0..listed],
+                list: one.list(),
             };
             println!(rt; "{whose}{line}")?;
         }
@@ -218,7 +217,7 @@ impl Story {
         heard: usize,
     ) -> anyhow::Result<bool> {
         let life = bench.live(rt.alloc(), NEVER, self.questions.as_str().as_bytes())?;
-        let Ending::Done = life.ending else {
+        let Ok(()) = life.ending else {
             print_place(rt, power, self.questions.as_str().as_bytes(), 0)?;
             return Err(anyhow!("a chip of the house is refused"));
         };
@@ -228,16 +227,16 @@ impl Story {
     // Did power fail in a life? If not, all calls were answered.
     fn has_failed(&self, life: &Life, heard: usize) -> anyhow::Result<bool> {
         match life.ending {
-            Ending::PowerFailed => Ok(true),
-            Ending::Done => {
+            Err(Unfinished::PowerFailed) => Ok(true),
+            Ok(()) => {
                 if heard == self.len() {
                     Ok(false)
                 } else {
                     Err(anyhow!("a life ended before its calls"))
                 }
             }
-            Ending::Refused => Err(anyhow!("a chip of the house is refused")),
-            Ending::NoMemory => Err(anyhow!("no memory to read a line")),
+            Err(Unfinished::Refused) => Err(anyhow!("a chip of the house is refused")),
+            Err(Unfinished::NoMemory) => Err(anyhow!("no memory to read a line")),
         }
     }
 

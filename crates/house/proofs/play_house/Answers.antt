@@ -8,7 +8,4 @@ use Rattle.house.proofs.play_house.Goals as goal
 
 pub play_calls-requires : goal.play_calls-requires
 unfolding ran
-play_calls-requires c = record {
-  sound = c.open-m.result.sound;
-  reached = ([], ap (λ (l : Limits). new_house (limits_mean thin l)) c.open-m.ensures.limits ∙ sym (c.open-m.ensures.house thin));
-}
+play_calls-requires c = ([], ap (λ (l : Limits). new_house (limits_mean thin l)) c.open-m.ensures.limits ∙ sym (c.open-m.ensures.house thin))

@@ -1,5 +1,5 @@
 -- Memory that fits is opened as a new house, and the chip has the blocks that its limits ask for; the run on it is the life.
-use Rattle.std.proofs.Common.{◌≡◌, ℕ, ◌/◌, ◌≤◌, List, [], ◌++◌, map, length, sym, ap, ◌∙◌, subst}
+use Rattle.std.proofs.Common.{◌≡◌, ℕ, ◌/◌, ◌≤◌, List, [], ◌++◌, map, length, Result, sym, ap, ◌∙◌, subst}
 use Rattle.meaning.specs.Calls.{Call, Answer, new_house}
 use Rattle.meaning.specs.Chip.{Chip}
 use Rattle.meaning.specs.Promise.{room_for, thin}
@@ -10,11 +10,11 @@ use Rattle.flash.specs.Pages.{chip_in}
 use Rattle.every_call.specs.Stage.{stage_calls}
 use Rattle.chips.specs.Recorded.{chip_of, said_means}
 use Rattle.player.specs.Texts.{RunEnded}
-use Rattle.player.specs.declared.Ending.{Ending}
+use Rattle.player.specs.declared.Unfinished.{Unfinished}
 use Rattle.power_bench.proofs.Bench.live.Goals as goal
 
 -- a run, by other words for its limits, its chip and its answers
-same_run : (k l : Limits) (cs : List Call) (d p e : Chip) (ts us vs : List Answer) (x : Ending) → k ≡ l → d ≡ p → ts ≡ [] → us ≡ vs →
+same_run : (k l : Limits) (cs : List Call) (d p e : Chip) (ts us vs : List Answer) (x : Result (Unit {0}) Unfinished) → k ≡ l → d ≡ p → ts ≡ [] → us ≡ vs →
     RunEnded (limits_mean stage_calls k) cs d ts e us x → RunEnded (limits_mean stage_calls l) cs p [] e vs x
 same_run k l cs d p e ts us vs x f g h i r =
     subst (λ (q : List Answer). RunEnded (limits_mean stage_calls l) cs p [] e q x) i
