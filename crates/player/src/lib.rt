@@ -114,10 +114,10 @@ pub fn play_text<D: Device>(
     while !rest.is_empty() {
         let next = read_line(rest);
         rest = next.rest;
-        if is_passed_over(next.line) {
+        if is_passed_over(next.value) {
             continue;
         }
-        match play_line(heap, device, session, m, &mut page, &mut out, next.line) {
+        match play_line(heap, device, session, m, &mut page, &mut out, next.value) {
             LinePlayed::Held => {}
             LinePlayed::Failed => return Ending::PowerFailed,
             LinePlayed::NoMemory => return Ending::NoMemory,

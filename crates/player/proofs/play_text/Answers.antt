@@ -38,7 +38,7 @@ loop-rest-preserved g c =
     let b = c.loop-rest.rest.now in
     let some : 0 < length b = some_bytes b (sym c.loop-rest-test.ensures) in
     let less = c.read_line-next.ensures.shorter some in
-    let p = step_call _ _ _ c.args.m.now.limits c.loop-rest.session.journal (house m) w.0 b c.read_line-next.result.rest.now c.read_line-next.result.line.now _ _ some w.1 c.read_line-next.ensures.rest c.read_line-next.ensures.line (sym c.if-is_passed_over.ensures) w.2 in
+    let p = step_call _ _ _ c.args.m.now.limits c.loop-rest.session.journal (house m) w.0 b c.read_line-next.result.rest.now c.read_line-next.result.value.now _ _ some w.1 c.read_line-next.ensures.rest c.read_line-next.ensures.line (sym c.if-is_passed_over.ensures) w.2 in
     let k = c.in-Held.ensures.played in (
       (w.0 - 1, omega (arith, w.1), call_more _ _ _ c.args.m.now.limits _ _ m c.play_line.new.m _ _ _ _ _ _ i.3.limits p k),
       k.ready,
@@ -55,7 +55,7 @@ returns-in-Failed g c =
     let b = c.loop-rest.rest.now in
     let some : 0 < length b = some_bytes b (sym c.loop-rest-test.ensures) in
     let less = c.read_line-next.ensures.shorter some in
-    let p = step_call _ _ _ c.args.m.now.limits c.loop-rest.session.journal (house m) w.0 b c.read_line-next.result.rest.now c.read_line-next.result.line.now _ _ some w.1 c.read_line-next.ensures.rest c.read_line-next.ensures.line (sym c.if-is_passed_over.ensures) w.2 in
+    let p = step_call _ _ _ c.args.m.now.limits c.loop-rest.session.journal (house m) w.0 b c.read_line-next.result.rest.now c.read_line-next.result.value.now _ _ some w.1 c.read_line-next.ensures.rest c.read_line-next.ensures.line (sym c.if-is_passed_over.ensures) w.2 in
     let k = c.in-Failed.ensures.played in
     record { played = call_cut _ _ _ c.args.m.now.limits _ _ m c.play_line.new.m _ _ _ _ _ _ i.3.limits p k; lent = lent_both c.args.m.now m c.play_line.new.m i.3 k.lent }
 
