@@ -1,11 +1,18 @@
 -- The words of a tear, one word at a time: one more number, and the first word that is none.
-use Rattle.std.proofs.Common.{◌≡◌, ℕ, zero, suc, ◌+◌, ◌-◌, ◌<◌, Bool, true, false, cond, List, [], ◌∷◌, ◌++◌, length, get_or, take, map, set, replicate, Some, None, Option, refl, sym, ap, subst, append_assoc, ◌∙◌, arith}
+use Rattle.std.proofs.Common.{◌≡◌, ℕ, zero, suc, ◌+◌, ◌-◌, ◌<◌, Bool, true, false, cond, List, [], ◌∷◌, ◌++◌, length, get_or, take, drop, map, set, replicate, Some, None, Option, refl, sym, ap, subst, append_assoc, add-one, ◌∙◌, arith, length-drop, drop-cons}
 use Rattle.std.specs.List.{find}
 use Rattle.std.specs.Option.{unwrap_or, option_or}
 use Rattle.std.proofs.lemmas.List.{take_more, length-take-le, map-append, length-append, length-map}
 use Rattle.std.proofs.Math.Seq.{set-append_seam}
 use Rattle.std.proofs.lemmas.List.Folds.{find-append}
 use Rattle.arguments.specs.Words.{number_of, tear_of}
+
+-- what is left of a list from i on, where something is left: what stands at i, and the rest
+pub at_drop : {X : Type 0} (xs : List X) (i : ℕ) (d x : X) (rest : List X) → drop i xs ≡ x ∷ rest → (i < length xs) × (get_or xs i d ≡ x) × (drop (i + 1) xs ≡ rest)
+at_drop xs i d x rest e =
+    let within : i < length xs = omega (arith, ap length e, length-drop i xs) in
+    let parts = sym (drop-cons xs i d within) ∙ e in
+    (within, cc, ap (λ n. drop n xs) (add-one i) ∙ cc)
 
 -- what was passed over is none, and what comes behind it is the same
 passed : (b : Bool) (x : List ℕ) (o : Option (List ℕ)) → cond b (Some x) o ≡ None → (b ≡ false) × (o ≡ None)

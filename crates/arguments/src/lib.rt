@@ -64,18 +64,23 @@ fn tear_number(word: &str) -> Option<u8>
 fn read_tear(words: &[String]) -> Result<[u8; 16], Trouble<'_>>
     ensures { TearTold (map string_bytes words.now) result }
 {
-    let mut tear = [0; 16];
-    for (i, word) in words.iter().enumerate() {
+    let mut tear = [0; MOST_TORN];
+    let mut rest = words;
+    for number in &mut tear {
+        let Some((word, others)) = rest.split_first() else {
+            break;
+        };
         let word = word.as_str();
-        if i >= MOST_TORN {
-            return Err(Trouble::TooManyTears(word));
-        }
-        let Some(number) = tear_number(word) else {
+        let Some(how) = tear_number(word) else {
             return Err(Trouble::NoTear(word));
         };
-        tear[i] = number;
+        *number = how;
+        rest = others;
     }
-    Ok(tear)
+    match rest.first() {
+        Some(word) => Err(Trouble::TooManyTears(word.as_str())),
+        None => Ok(tear),
+    }
 }
 
 // What the words behind the program's name say.

@@ -51,9 +51,7 @@ impl From<io::Error> for Stopped {
 
 // Prints an answer, unless it is the act in which power fails.
 fn say(rt: &HostRuntime, power: &mut Power, answer: Answer, list: &[u64]) -> Result<(), Stopped> {
-    if power.fails() {
-        return Err(Stopped::PowerFailed);
-    }
+    power.spend()?;
     let line = AnswerLine { answer, list };
     println!(rt; "{line}")?;
     Ok(())

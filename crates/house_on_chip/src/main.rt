@@ -7,24 +7,22 @@
 ghost use Rattle.std.specs.Prelude.{◌≡◌, ◌≤◌, true, length};
 ghost use Rattle.meaning.specs.Promise.{room_for};
 ghost use Rattle.journal_steps.specs.Steps.{chip_limits};
-ghost use Rattle.house_on_chip.specs.Opening.{limits_in, memory_suffices, opening_refused, times_fit};
-
-mod opening;
+ghost use Rattle.call_files.specs.Opening.{memory_suffices, opening_refused, times_fit};
 
 use arguments::{Arguments, Trouble, read_arguments};
+use call_files::{chip_bytes, first_line, open_house, whole_chip};
 use driver::Device;
 use file_chip::{Fault, FileChip};
 use flash::Power;
-use opening::{chip_bytes, first_line, limits_of, open_house, whole_chip};
+use limits::Limits;
 use player::{Unfinished, run};
-use protocol::Answer;
+use protocol::{Answer, Unopened};
 use std::alloc::{AllocError, Global};
 use std::fs::File;
 use std::process::ExitCode;
 use std::{env, fs, io};
 use store::open;
 use text::answers::AnswerLine;
-use text::houses::HouseLine;
 
 // The bytes of the file that stands for the chip; none where there is no such file.
 fn read_pages(rt: &HostRuntime, path: &str) -> io::Result<Vec<u8>> {
@@ -64,12 +62,12 @@ fn refuse_opening(rt: &HostRuntime, power: Power, answer: Answer) -> io::Result<
 fn play_house<D: Device>(
     heap: Global,
     device: &mut D,
-    house: HouseLine,
+    limits: Limits,
     text: &[u8],
 ) -> Result<Result<(), Unfinished>, AllocError>
-    requires memory { memory_suffices house ≡ true }
-    requires times { times_fit house ≡ true }
-    requires size { room_for (chip_limits (limits_in house)) ≤ D.Device.blocks device.old }
+    requires memory { memory_suffices limits ≡ true }
+    requires times { times_fit limits ≡ true }
+    requires size { room_for (chip_limits limits) ≤ D.Device.blocks device.old }
 {
     let mut leg_words = vec![in heap; 0u32; 32 * 128]?;
     let mut fare_words = vec![in heap; 0u32; 32 * 24]?;
@@ -79,7 +77,6 @@ fn play_house<D: Device>(
     let fares = fare_words.as_mut_slice();
     let bookings = booking_words.as_mut_slice();
     let sums = all_sums.as_mut_slice();
-    let limits = limits_of(house);
     let mut m = open(limits, legs, fares, bookings, sums);
     Ok(run(heap, device, &mut m, text))
 }
@@ -96,13 +93,7 @@ fn close<'a>(
         Err(Unfinished::NoMemory) => return Err(Trouble::NoMemory),
         Err(Unfinished::PowerFailed) => {}
         Err(Unfinished::Refused) => {
-            let _ = chip.say(
-                Answer::Refused {
-                    refusal: 3,
-                    place: 1,
-                },
-                &[],
-            );
+            let _ = chip.say(Answer::from(Unopened::Chip), &[]);
         }
     }
     match chip.failed() {
@@ -117,24 +108,24 @@ fn close<'a>(
 fn play<'a>(
     rt: &HostRuntime,
     arguments: Arguments<'a>,
-    house: HouseLine,
+    limits: Limits,
     text: &[u8],
     found: Vec<u8>,
 ) -> Result<(), Trouble<'a>>
-    requires { opening_refused house (length found.items) ≡ 0 }
+    requires { opening_refused limits (length found.items) ≡ 0 }
 {
-    let Ok(pages) = whole_chip(rt.alloc(), found, house) else {
+    let Ok(pages) = whole_chip(rt.alloc(), found, &limits) else {
         return Err(Trouble::NoMemory);
     };
     let mut pages = pages;
-    let Ok(file) = open_pages(rt, arguments.pages, chip_bytes(house)) else {
+    let Ok(file) = open_pages(rt, arguments.pages, chip_bytes(&limits)) else {
         return Err(Trouble::Unwritable(arguments.pages));
     };
     let Ok(outside) = rt.clone() else {
         return Err(Trouble::NoMemory);
     };
     let mut chip = FileChip::new(outside, file, pages.as_mut_slice(), arguments.power);
-    match play_house(rt.alloc(), &mut chip, house, text) {
+    match play_house(rt.alloc(), &mut chip, limits, text) {
         Ok(ended) => close(&mut chip, ended, arguments.pages),
         Err(_) => Err(Trouble::NoMemory),
     }
@@ -150,8 +141,8 @@ fn perform<'a>(rt: &HostRuntime, words: &'a [String]) -> Result<(), Trouble<'a>>
         return Err(Trouble::Unreadable(arguments.calls));
     };
     let first = first_line(text.as_slice());
-    match open_house(first.line, found.len() as u64) {
-        Ok(house) => play(rt, arguments, house, first.rest, found),
+    match open_house(first.value, found.len() as u64) {
+        Ok(limits) => play(rt, arguments, limits, first.rest, found),
         Err(refusal) => match refuse_opening(rt, arguments.power, refusal) {
             Ok(()) => Ok(()),
             Err(_) => Err(Trouble::Unprinted),

@@ -101,7 +101,7 @@ fn play(
         }
         let next = read_line(rest);
         rest = next.rest;
-        let one = answer_line(heap, m, next.line)?;
+        let one = answer_line(heap, m, next.value)?;
         said.push(one)?;
     }
     Ok(())

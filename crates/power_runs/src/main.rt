@@ -75,7 +75,7 @@ fn play_next(
     story: &Story,
     known: usize,
 ) -> anyhow::Result<()> {
-    let line = read_line(story.rest(known)).line;
+    let line = read_line(story.rest(known)).value;
     let life = bench.live(rt.alloc(), NEVER, line)?;
     let Ok(()) = life.ending else {
         return Err(anyhow!("a call is not played"));

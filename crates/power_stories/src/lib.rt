@@ -89,7 +89,7 @@ fn print_place(rt: &HostRuntime, power: Power, text: &[u8], place: usize) -> any
     let acts = power.acts;
     let tear = power.tear;
     println!(rt; "power fails in act {acts} (0 is never) by the tear {tear:?}")?;
-    let line = read_line(skip_lines(text, place)).line;
+    let line = read_line(skip_lines(text, place)).value;
     let shown = std::str::from_utf8(line).unwrap_or("no text");
     println!(rt; "line {place}: {shown}")?;
     Ok(())

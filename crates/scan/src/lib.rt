@@ -201,6 +201,7 @@ pub fn read_word(line: &[u8]) -> Front<'_, &[u8]>
 }
 
 // The next numbers, as many as asked for, but at most five. What stands beyond them means nothing.
+// Kept: a call is made of five numbers, of which as many count as its verb asks for.
 pub fn read_numbers(line: &[u8], count: usize) -> Result<Front<'_, [u32; 5]>, Unfit>
     ensures { numbers_told (min count 5) result ≡ numbers_in (min count 5) line.now }
 {

@@ -16,6 +16,7 @@ pub struct AnswerLine<'a> {
 }
 
 // How a booking stands, in a word.
+// Kept: the cases of an answer have numbers, so how a booking stands is one.
 fn stands_word(stands: u64) -> &'static str
     ensures { result.now ≡ standing stands }
 {

@@ -15,11 +15,11 @@ open-m-requires g c =
     let bookings : length c.as_mut_slice-bookings.result.now ≡ 2816 = omega (arith, c.as_mut_slice-bookings.ensures.len, c.in_ok-booking_words.ensures.len) in
     let sums : length c.as_mut_slice-sums.result.now ≡ 128 = omega (arith, c.as_mut_slice-sums.ensures.len, c.in_ok-all_sums.ensures.len) in
     let have = lengths c.as_mut_slice-legs.result.now c.as_mut_slice-fares.result.now c.as_mut_slice-bookings.result.now c.as_mut_slice-sums.result.now in
-    ap (λ (l : Limits). misfit_of l have) c.limits_of-limits.ensures ∙ memory_fits c.args.house have c.requires.memory c.requires.times legs fares bookings sums
+    memory_fits c.args.limits have c.requires.memory c.requires.times legs fares bookings sums
 
 pub run-requires : goal.run-requires
 run-requires g c = record {
   sound = c.open-m.result.sound;
   fresh = c.open-m.ensures.house whole ∙ ap (λ (l : Limits). new_house (limits_mean whole l)) (sym c.open-m.ensures.limits);
-  size = subst (λ (l : Limits). room_for (chip_limits l) ≤ g.D.Device.blocks c.args.device.now) (sym (c.open-m.ensures.limits ∙ c.limits_of-limits.ensures)) c.requires.size;
+  size = subst (λ (l : Limits). room_for (chip_limits l) ≤ g.D.Device.blocks c.args.device.now) (sym c.open-m.ensures.limits) c.requires.size;
 }
