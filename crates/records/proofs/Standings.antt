@@ -1,5 +1,5 @@
 -- The number of a standing.
-use Rattle.std.proofs.Common.{ℕ, ◌≤◌, arith}
+use Rattle.std.proofs.Common.{◌≤◌, arith}
 use Rattle.records.specs.declared.Standing.{Standing}
 use Rattle.records.specs.declared.Standing.TheVariants.{Waits, Held, Paid, Gone}
 use Rattle.records.specs.Standings.{number_of}
