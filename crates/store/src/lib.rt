@@ -1,9 +1,10 @@
 // The house in lent memory: legs, fares and bookings, and what is taken on each leg. `Memory` is the
 // four lent slices, how many records there are in them, the tick it is now, and the limits with
-// which the house was opened. specs/Whole.antt says which house of the meaning that is (`house`), and
-// when memory is sound (`Sound`): each record is in range, and what is kept as taken on a leg in a
-// class is just what going through all bookings would give. Every function keeps memory sound, and
-// says what the house is after it, so that no layer above speaks of words.
+// which the house was opened. specs/Whole.antt says which house of the meaning that is (`house`).
+// Every memory is sound, by a ghost field: each record is in range, and what is kept as taken on a leg
+// in a class is just what going through all bookings would give (`SoundWords`, of specs/Words.antt). So
+// no clause has to say it. Every function says what the house is after it, so that no layer above
+// speaks of words.
 //
 // Nothing here goes through all bookings: adding and reading touch a fixed number of words, and a
 // change of how a booking stands at most 8 legs times 26 classes.

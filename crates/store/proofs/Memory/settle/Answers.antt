@@ -1,5 +1,5 @@
 -- the booking stands otherwise, and what is taken on its legs follows
-use Rattle.std.proofs.Common.{ℕ, ◌≤◌, sym, refl, ap, ◌∙◌, arith, rules}
+use Rattle.std.proofs.Common.{ℕ, sym, refl, ap, ◌∙◌, arith, rules}
 use Rattle.meaning.specs.Calls.{the_booking}
 use Rattle.counts.specs.Counts.{counted}
 use Rattle.records.proofs.Standings.{number_few}
