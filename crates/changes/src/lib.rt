@@ -19,6 +19,7 @@ ghost use Rattle.changes.specs.Steps.{ended, gone_at, then_served, ticks_fit};
 use checks::read_limits;
 use pricing::price;
 use protocol::{Answer, Refusal};
+use records::Standing;
 use seating::serve;
 use store::Memory;
 
@@ -50,7 +51,7 @@ pub fn pay(m: &mut Memory, booking: u32) -> Answer
     }
     let seat = price(m, b.class, &b.legs[0..b.count as usize]).unwrap_or(0);
     let sum = u64::from(b.seats) * seat;
-    m.settle(k, PAID, 0, sum);
+    m.settle(k, Standing::Paid, 0, sum);
     Answer::Number { value: sum }
 }
 
@@ -75,7 +76,7 @@ pub fn cancel(m: &mut Memory, booking: u32) -> Answer
     if m.booking(k).stands >= GONE {
         return Refusal::StandsOtherwise.at(0);
     }
-    m.set_stand(k, GONE, 0);
+    m.set_stand(k, Standing::Gone, 0);
     serve_now(m);
     Answer::Number {
         value: u64::from(booking),
@@ -134,7 +135,7 @@ fn run_out(m: &mut Memory, tick: u32)
     // Kept: (a) bookings are in lent words, so they are gone through by number.
     for k in 0..m.booking_count() {
         if is_over(m, k, tick) {
-            m.set_stand(k, GONE, 0);
+            m.set_stand(k, Standing::Gone, 0);
         }
     }
 }

@@ -9,7 +9,7 @@ ghost use Rattle.std.specs.Prelude.{◌≡◌, ℕ, ◌+◌, ◌*◌, ◌^◌, �
 ghost use Rattle.records.specs.Words.{leg_in};
 ghost use Rattle.counts.specs.Counts.{CanGive, CanTake, Ready, Recounted, Shared, count_in, counted};
 
-use records::{Booking, LEG_WORDS};
+use records::{Booking, LEG_WORDS, Standing};
 
 // What is taken on leg i in a class and the cheaper ones.
 pub fn load_count(legs: &[u32], i: usize, class: usize) -> u32
@@ -78,11 +78,14 @@ fn give_all(legs: &mut [u32], b: &Booking)
     }
 }
 
-// Is a booking that stands so counted as taken? It is if it is held or paid.
+// Is a booking with this word of how it stands counted as taken? It is if it is held or paid.
 pub fn is_counted(stands: u32) -> bool
     ensures { result ≡ counted stands }
 {
-    stands == 1 || stands == 2
+    matches!(
+        Standing::try_from(stands),
+        Ok(Standing::Held | Standing::Paid)
+    )
 }
 
 // Brings the counts along where a booking was or was not counted, and now is or is not.

@@ -5,7 +5,8 @@
 // Loading and storing touch a fixed number of words, and no place but the one that is named.
 #![tactic(auto)]
 
-ghost use Rattle.std.specs.Prelude.{◌≡◌, ℕ, ◌+◌, ◌*◌, ◌<◌, ◌≤◌, length, ◌≢◌, slice_index};
+ghost use Rattle.std.specs.Prelude.{◌≡◌, ℕ, ◌+◌, ◌*◌, ◌<◌, ◌≤◌, min, length, ◌≢◌, slice_index};
+ghost use Rattle.records.specs.Standings.{StandsSo, number_of};
 ghost use Rattle.records.specs.Words.{booking_in, booking_of, booking_read, fare_in, leg_in, leg_of, leg_read, part};
 
 // Words of a leg: 31 for the leg itself, 26 counts of what is taken, 71 spare.
@@ -38,8 +39,47 @@ pub struct Fare {
     pub price: u32,
 }
 
-// A booking of some legs: how it stands (0 waiting, 1 held, 2 paid, 3 gone), until when, and what
-// was paid.
+// How a booking stands. The word that is kept of it is its number, from 0 for one that waits to 3 for
+// one that is gone.
+#[derive(Clone, Copy, Debug, PartialEq, Eq, PartialOrd, Ord)]
+pub enum Standing {
+    Waits,
+    Held,
+    Paid,
+    Gone,
+}
+
+// A word that is the number of no standing.
+#[derive(Clone, Copy, Debug, PartialEq, Eq)]
+pub struct UnknownStanding(pub u32);
+
+impl Standing {
+    // The word that is kept of it.
+    pub fn number(self) -> u32
+        ensures { result ≡ number_of self }
+    {
+        self as u32
+    }
+}
+
+impl TryFrom<u32> for Standing {
+    type Error = UnknownStanding;
+
+    ghost try_from_gives = { StandsSo };
+
+    // The standing of which a word is kept.
+    fn try_from(word: u32) -> Result<Standing, UnknownStanding> {
+        match word {
+            0 => Ok(Standing::Waits),
+            1 => Ok(Standing::Held),
+            2 => Ok(Standing::Paid),
+            3 => Ok(Standing::Gone),
+            _ => Err(UnknownStanding(word)),
+        }
+    }
+}
+
+// A booking of some legs: the word of how it stands, until when, and what was paid.
 #[derive(Clone, Copy)]
 pub struct Booking {
     pub class: u32,
@@ -81,12 +121,20 @@ impl Booking {
         Booking {
             class,
             seats,
-            stands: 0,
+            stands: Standing::Waits.number(),
             until: 0,
             count: legs.len() as u32,
             legs: all,
             paid: 0,
         }
+    }
+
+    // How it stands. A word that is the number of no standing, which no sound memory has, says that it
+    // is gone.
+    pub fn standing(&self) -> Standing
+        ensures { number_of result ≡ min self.now.stands 3 }
+    {
+        Standing::try_from(self.stands).unwrap_or(Standing::Gone)
     }
 }
 

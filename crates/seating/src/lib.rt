@@ -9,21 +9,15 @@
 // through all bookings.
 #![tactic(auto)]
 
-ghost use Rattle.std.specs.Prelude.{◌≡◌, ℕ, ◌+◌, ◌<◌, min, [], ◌∷◌, length, slice_index};
+ghost use Rattle.std.specs.Prelude.{◌≡◌, ℕ, ◌+◌, ◌<◌, ◌==◌, min, [], ◌∷◌, length, slice_index};
 ghost use Rattle.meaning.specs.Lines.{pick};
 ghost use Rattle.meaning.specs.House.{room};
 ghost use Rattle.meaning.specs.Calls.{most, the_booking};
 ghost use Rattle.seating.specs.Serving.{Found, Newcomer, NoneCould, OneServing, all_served, could, last, newest_held};
 ghost use Rattle.store.specs.Whole.{Lent, house};
 
-use records::Leg;
+use records::{Booking, Leg, Standing};
 use store::Memory;
-
-// How a booking stands that waits.
-const WAITS: u32 = 0;
-
-// How a booking stands that is held.
-const HELD: u32 = 1;
 
 // As many seats are told as free, at most.
 const MOST: u32 = 1_000;
@@ -77,6 +71,13 @@ pub fn free_seats(memory: &Memory, i: usize, class: u32) -> u32
     free
 }
 
+// Does a booking wait?
+fn is_waiting(b: &Booking) -> bool
+    ensures { result ≡ (b.now.stands == 0) }
+{
+    matches!(b.standing(), Standing::Waits)
+}
+
 // The first of those who wait, by number, for whom there is room: the one that a serving would hold.
 // A limit without room for a booking, on any of its legs, in any of its classes, leaves for the next
 // booking.
@@ -86,7 +87,7 @@ pub fn first_fit(memory: &Memory) -> Option<usize>
 {
     'bookings: for k in 0..memory.booking_count() {
         let b = memory.booking(k);
-        if b.stands != WAITS {
+        if !is_waiting(&b) {
             continue;
         }
         for x in 0..b.count as usize {
@@ -111,7 +112,7 @@ pub fn serve(memory: &mut Memory, until: u32)
     ensures lent { Lent memory.old memory.new }
 {
     while let Some(k) = first_fit(memory) {
-        memory.set_stand(k, HELD, until);
+        memory.set_stand(k, Standing::Held, until);
     }
 }
 
@@ -130,7 +131,7 @@ pub fn serve_newest(memory: &mut Memory, until: u32) -> bool
     let b = memory.booking(k);
     let fits = has_room(memory, &b.legs[0..b.count as usize], b.class, b.seats);
     if fits {
-        memory.set_stand(k, HELD, until);
+        memory.set_stand(k, Standing::Held, until);
     }
     fits
 }

@@ -12,7 +12,7 @@ ghost use Rattle.store.specs.Whole.{house};
 #[cfg(test)]
 mod tests {
     use limits::Limits;
-    use records::{Booking, Leg};
+    use records::{Booking, Leg, Standing};
     use seating::{first_fit, free_seats, has_room, serve, serve_newest};
     use std::process::Abort;
     use std::test::Fail;
@@ -44,8 +44,7 @@ mod tests {
     }
 
     // Leg 0 with limits 5, 3 and 2, leg 1 with limits 5 and 4, leg 2 with 1,000 and 1,000.
-    fn fill(rt: &impl Abort, m: &mut Memory) -> Result<(), Fail>
-    {
+    fn fill(rt: &impl Abort, m: &mut Memory) -> Result<(), Fail> {
         add_leg(rt, m, 1, 100, &[5, 3, 2])?;
         add_leg(rt, m, 2, 200, &[5, 4])?;
         add_leg(rt, m, 3, 300, &[1_000, 1_000])
@@ -64,8 +63,13 @@ mod tests {
     }
 
     // A booking of leg i that waits; nobody is served yet.
-    fn wait_for(rt: &impl Abort, m: &mut Memory, class: u32, seats: u32, i: u32) -> Result<(), Fail>
-    {
+    fn wait_for(
+        rt: &impl Abort,
+        m: &mut Memory,
+        class: u32,
+        seats: u32,
+        i: u32,
+    ) -> Result<(), Fail> {
         may_book(rt, m, class, seats, i)?;
         m.push_booking(&Booking::new(class, seats, &[i]));
         Ok(())
@@ -92,10 +96,8 @@ mod tests {
     }
 
     // Booking k is paid, or gone; whoever waits is not served yet.
-    fn stand(rt: &impl Abort, m: &mut Memory, k: usize, stands: u32)
-    {
+    fn stand(rt: &impl Abort, m: &mut Memory, k: usize, stands: Standing) {
         assert!(rt; k < m.booking_count());
-        assert!(rt; stands <= 3);
         m.set_stand(k, stands, 0);
     }
 
@@ -111,21 +113,18 @@ mod tests {
     }
 
     // Leg 0 has limits of 1 from now on.
-    fn lower(rt: &impl Abort, m: &mut Memory) -> Result<(), Fail>
-    {
+    fn lower(rt: &impl Abort, m: &mut Memory) -> Result<(), Fail> {
         limit(rt, m, 0, &[1, 1, 1])
     }
 
     // Room for so many seats in a class on leg i is just this.
-    fn room_is(rt: &impl Abort, m: &Memory, i: u32, class: u32, seats: u32, expected: bool)
-    {
+    fn room_is(rt: &impl Abort, m: &Memory, i: u32, class: u32, seats: u32, expected: bool) {
         assert!(rt; (i as usize) < m.leg_count());
         assert_eq!(rt; has_room(m, &[i], class, seats), expected);
     }
 
     // What is free on leg i, from class 0 on, is just this.
-    fn free_is(rt: &impl Abort, m: &Memory, i: usize, expected: &[u32])
-    {
+    fn free_is(rt: &impl Abort, m: &Memory, i: usize, expected: &[u32]) {
         assert!(rt; i < m.leg_count());
         assert!(rt; expected.len() <= 26);
         for c in 0..expected.len() {
@@ -134,8 +133,7 @@ mod tests {
     }
 
     // How the bookings stand, from number 0 on, is just this.
-    fn stand_so(rt: &impl Abort, m: &Memory, expected: &[u32])
-    {
+    fn stand_so(rt: &impl Abort, m: &Memory, expected: &[u32]) {
         assert!(rt; m.booking_count() == expected.len());
         for k in 0..expected.len() {
             assert_eq!(rt; m.booking(k).stands, expected[k]);
@@ -144,8 +142,7 @@ mod tests {
 
     // Two seats of leg 0 in class 1 are held: of limits 5, 3 and 2 are left 3, 1 and 2, and in class 2
     // no more than class 1 leaves.
-    fn the_first_bookings(rt: &impl Abort, m: &mut Memory) -> Result<(), Fail>
-    {
+    fn the_first_bookings(rt: &impl Abort, m: &mut Memory) -> Result<(), Fail> {
         serve(m, 20);
         assert!(rt; book_both(rt, m, 1, 2)?);
         free_is(rt, m, 0, &[3, 1, 1]);
@@ -159,10 +156,9 @@ mod tests {
     }
 
     // Booking 0 is gone, so booking 1 is held, until tick 40.
-    fn one_is_gone(rt: &impl Abort, m: &mut Memory)
-    {
+    fn one_is_gone(rt: &impl Abort, m: &mut Memory) {
         assert_eq!(rt; first_fit(m), None);
-        stand(rt, m, 0, 3);
+        stand(rt, m, 0, Standing::Gone);
         assert_eq!(rt; first_fit(m), Some(1));
         serve(m, 40);
         assert_eq!(rt; first_fit(m), None);
@@ -246,8 +242,7 @@ mod tests {
 
     // Of 4, 3 and 1 seats that wait for 5, in this order, the first is held, then the third, for whom
     // there is still room; 5 seats in class 1 of leg 1, whose limit is 4, wait on.
-    fn first_of_four(rt: &impl Abort, m: &mut Memory) -> Result<(), Fail>
-    {
+    fn first_of_four(rt: &impl Abort, m: &mut Memory) -> Result<(), Fail> {
         wait_for(rt, m, 0, 4, 0)?;
         wait_for(rt, m, 0, 3, 0)?;
         wait_for(rt, m, 0, 1, 0)?;
@@ -268,10 +263,10 @@ mod tests {
         let mut m = open(LIMITS, &mut legs, &mut fares, &mut bookings, &mut sums);
         fill(&rt, &mut m)?;
         first_of_four(&rt, &mut m)?;
-        stand(&rt, &mut m, 0, 2);
-        stand(&rt, &mut m, 2, 3);
+        stand(&rt, &mut m, 0, Standing::Paid);
+        stand(&rt, &mut m, 2, Standing::Gone);
         assert_eq!(rt; first_fit(&m), None);
-        stand(&rt, &mut m, 0, 3);
+        stand(&rt, &mut m, 0, Standing::Gone);
         assert_eq!(rt; first_fit(&m), Some(1));
         serve(&mut m, 20);
         stand_so(&rt, &m, &[3, 1, 3, 0]);

@@ -1,9 +1,10 @@
 // The house in lent memory: legs, fares and bookings, and what is taken on each leg. `Memory` is the
 // four lent slices, how many records there are in them, the tick it is now, and the limits with
-// which the house was opened. specs/Whole.antt says which house of the meaning that is (`house`), and
-// when memory is sound (`Sound`): each record is in range, and what is kept as taken on a leg in a
-// class is just what going through all bookings would give. Every function keeps memory sound, and
-// says what the house is after it, so that no layer above speaks of words.
+// which the house was opened. specs/Whole.antt says which house of the meaning that is (`house`).
+// Every memory is sound, by a ghost field: each record is in range, and what is kept as taken on a leg
+// in a class is just what going through all bookings would give (`SoundWords`, of specs/Words.antt). So
+// no clause has to say it. Every function says what the house is after it, so that no layer above
+// speaks of words.
 //
 // Nothing here goes through all bookings: adding and reading touch a fixed number of words, and a
 // change of how a booking stands at most 8 legs times 26 classes.
@@ -14,6 +15,7 @@ ghost use Rattle.meaning.specs.Lines.{leg, Fare as MeantFare};
 ghost use Rattle.meaning.specs.House.{stand, taken};
 ghost use Rattle.meaning.specs.Calls.{all_to, falling, the_booking};
 ghost use Rattle.records.specs.Means.{booking_means, fare_means, leg_means};
+ghost use Rattle.records.specs.Standings.{number_of};
 ghost use Rattle.records.specs.Words.{booking_in};
 ghost use Rattle.counts.specs.Counts.{CanGive, CanTake, Ready, Recounted, counted};
 ghost use Rattle.store.specs.Range.{FineBooking, FineFare, FineLeg};
@@ -25,7 +27,8 @@ use counts::{clear_counts, is_counted, load_count, recount};
 use limits::Limits;
 pub use opening::open;
 use records::{
-    Booking, Fare, Leg, load_booking, load_fare, load_leg, store_booking, store_fare, store_leg,
+    Booking, Fare, Leg, Standing, load_booking, load_fare, load_leg, store_booking, store_fare,
+    store_leg,
 };
 
 // A house in lent memory.
@@ -228,25 +231,23 @@ impl Memory<'_> {
 
     // How booking k stands from now on, until when, and what was paid; what is taken on its legs
     // follows.
-    pub fn settle(&mut self, k: usize, stands: u32, until: u32, paid: u64)
+    pub fn settle(&mut self, k: usize, stands: Standing, until: u32, paid: u64)
         requires there { k < length (house self.old).bookings }
-        requires stands { stands ≤ 3 }
-        ensures house { house self.new ≡ set_booking (house self.old) k (settled (the_booking (house self.old) k) stands until paid) }
+        ensures house { house self.new ≡ set_booking (house self.old) k (settled (the_booking (house self.old) k) (number_of stands) until paid) }
         ensures lent { Lent self.old self.new }
     {
         let mut b = self.booking(k);
         let was = is_counted(b.stands);
-        b.stands = stands;
+        b.stands = stands.number();
         b.until = until;
         b.paid = paid;
         put_booking(self.legs, self.bookings, self.sums, k, &b, was);
     }
 
     // How booking k stands from now on, and until when; what was paid stays.
-    pub fn set_stand(&mut self, k: usize, stands: u32, until: u32)
+    pub fn set_stand(&mut self, k: usize, stands: Standing, until: u32)
         requires there { k < length (house self.old).bookings }
-        requires stands { stands ≤ 3 }
-        ensures house { house self.new ≡ set_booking (house self.old) k (stand (the_booking (house self.old) k) stands until) }
+        ensures house { house self.new ≡ set_booking (house self.old) k (stand (the_booking (house self.old) k) (number_of stands) until) }
         ensures lent { Lent self.old self.new }
     {
         let b = self.booking(k);

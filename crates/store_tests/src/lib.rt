@@ -57,7 +57,7 @@ pub fn booking_again(bookings: &mut [u32], sums: &mut [u64], k: usize, b: &Booki
 #[cfg(test)]
 mod tests {
     use limits::{Limits, Misfit, Sizes};
-    use records::{Booking, Fare, Leg, load_fare, store_fare};
+    use records::{Booking, Fare, Leg, Standing, load_fare, store_fare};
     use std::process::Abort;
     use std::test::Fail;
     use store::{Memory, open};
@@ -96,17 +96,20 @@ mod tests {
     }
 
     // Booking k stands otherwise.
-    fn stand(rt: &impl Abort, m: &mut Memory, k: usize, stands: u32, until: u32) -> Result<(), Fail>
-    {
+    fn stand(
+        rt: &impl Abort,
+        m: &mut Memory,
+        k: usize,
+        stands: Standing,
+        until: u32,
+    ) -> Result<(), Fail> {
         assert!(rt; k < m.booking_count());
-        assert!(rt; stands <= 3);
         m.set_stand(k, stands, until);
         Ok(())
     }
 
     // What is taken on leg i, from class 0 on, is just this.
-    fn taken_is(rt: &impl Abort, m: &Memory, i: usize, expected: &[u32])
-    {
+    fn taken_is(rt: &impl Abort, m: &Memory, i: usize, expected: &[u32]) {
         assert!(rt; i < m.leg_count());
         assert!(rt; expected.len() <= 26);
         for c in 0..expected.len() {
@@ -116,8 +119,7 @@ mod tests {
 
     // Leg 0 from 1 to 2 with limits 5, 3 and 2, leg 1 from 2 to 3 with limits 5 and 4; and bookings
     // that wait: two seats in class 1 on both legs, two in class 1 on leg 0, three in class 0 on both.
-    fn fill(rt: &impl Abort, m: &mut Memory) -> Result<(), Fail>
-    {
+    fn fill(rt: &impl Abort, m: &mut Memory) -> Result<(), Fail> {
         add_leg(rt, m, 100, 200, 1, &[5, 3, 2])?;
         add_leg(rt, m, 230, 300, 2, &[5, 4])?;
         add_booking(rt, m, 1, 2, &[0, 1])?;
@@ -134,8 +136,7 @@ mod tests {
     }
 
     // Leg i has just these limits.
-    fn limits_are(rt: &impl Abort, m: &Memory, i: usize, expected: &[u32]) -> Result<(), Fail>
-    {
+    fn limits_are(rt: &impl Abort, m: &Memory, i: usize, expected: &[u32]) -> Result<(), Fail> {
         assert!(rt; i < m.leg_count());
         assert!(rt; expected.len() <= 26);
         let g = m.leg(i);
@@ -158,10 +159,9 @@ mod tests {
     }
 
     // Booking k is paid.
-    fn pay(rt: &impl Abort, m: &mut Memory, k: usize, sum: u64) -> Result<(), Fail>
-    {
+    fn pay(rt: &impl Abort, m: &mut Memory, k: usize, sum: u64) -> Result<(), Fail> {
         assert!(rt; k < m.booking_count());
-        m.settle(k, 2, 0, sum);
+        m.settle(k, Standing::Paid, 0, sum);
         Ok(())
     }
 
@@ -173,8 +173,7 @@ mod tests {
         stands: u32,
         until: u32,
         paid: u64,
-    ) -> Result<(), Fail>
-    {
+    ) -> Result<(), Fail> {
         assert!(rt; k < m.booking_count());
         let b = m.booking(k);
         assert_eq!(rt; b.stands, stands);
@@ -184,8 +183,7 @@ mod tests {
     }
 
     // What is taken on both legs.
-    fn both_are(rt: &impl Abort, m: &Memory, first: &[u32], second: &[u32]) -> Result<(), Fail>
-    {
+    fn both_are(rt: &impl Abort, m: &Memory, first: &[u32], second: &[u32]) -> Result<(), Fail> {
         taken_is(rt, m, 0, first);
         taken_is(rt, m, 1, second);
         Ok(())
@@ -208,26 +206,25 @@ mod tests {
         let mut m = open(limits, &mut legs, &mut fares, &mut bookings, &mut sums);
         fill(&rt, &mut m)?;
         both_are(&rt, &m, &[0, 0, 0], &[0, 0])?;
-        stand(&rt, &mut m, 0, 1, 20)?;
+        stand(&rt, &mut m, 0, Standing::Held, 20)?;
         both_are(&rt, &m, &[2, 2, 0], &[2, 2])?;
-        stand(&rt, &mut m, 0, 3, 0)?;
+        stand(&rt, &mut m, 0, Standing::Gone, 0)?;
         both_are(&rt, &m, &[0, 0, 0], &[0, 0])
     }
 
     // The worked example from its first booking to its last. Booking 2, in class 0, counts in class 0
     // alone; a payment leaves the counts as they are, and so do other limits.
-    fn go_on(rt: &impl Abort, m: &mut Memory) -> Result<(), Fail>
-    {
-        stand(rt, m, 0, 1, 20)?;
-        stand(rt, m, 2, 1, 20)?;
+    fn go_on(rt: &impl Abort, m: &mut Memory) -> Result<(), Fail> {
+        stand(rt, m, 0, Standing::Held, 20)?;
+        stand(rt, m, 2, Standing::Held, 20)?;
         both_are(rt, m, &[5, 2, 0], &[5, 2])?;
         pay(rt, m, 0, 160)?;
         both_are(rt, m, &[5, 2, 0], &[5, 2])?;
         m.set_clock(20);
-        stand(rt, m, 2, 3, 0)?;
+        stand(rt, m, 2, Standing::Gone, 0)?;
         both_are(rt, m, &[2, 2, 0], &[2, 2])?;
-        stand(rt, m, 0, 3, 0)?;
-        stand(rt, m, 1, 1, 40)?;
+        stand(rt, m, 0, Standing::Gone, 0)?;
+        stand(rt, m, 1, Standing::Held, 40)?;
         both_are(rt, m, &[2, 2, 0], &[0, 0])?;
         limit(rt, m, 0, &[1, 1, 1])?;
         limits_are(rt, m, 0, &[1, 1, 1])?;

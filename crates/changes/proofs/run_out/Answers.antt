@@ -16,7 +16,6 @@ is_over-requires c = record {
 pub set_stand-requires : goal.set_stand-requires
 set_stand-requires c = record {
   there = omega (arith, passing_length c.args.m.now c.loop-k.m c.args.tick c.loop-k.k c.loop-k.invariant, c.booking_count-k-end.ensures);
-  stands = omega arith;
 }
 
 pub loop-k-preserved : goal.loop-k-preserved

@@ -1,6 +1,6 @@
 -- a limit without room passes a booking over; one that waits and passes every leg and class is the first
 use Rattle.std.proofs.Common.{◌≡◌, ℕ, false, [], ◌∷◌, length, get_or, Some, None, sym, ap, ◌∙◌, arith, below_more}
-use Rattle.std.proofs.lemmas.Bool.{eq-eqb, and_from, and_right}
+use Rattle.std.proofs.lemmas.Bool.{eq-eqb, eqb-true, and_from, and_right}
 use Rattle.meaning.specs.House.{Booking, House, room}
 use Rattle.store.specs.Whole.{house}
 use Rattle.seating.specs.Serving.{First, NoneBelow, fits}
@@ -32,7 +32,7 @@ loop-x-preserved c =
 pub returns-in-bookings : goal.returns-in-bookings
 returns-in-bookings c =
     let h : House = house c.args.memory.now in
-    let waits : c.booking-b.result.stands ≡ 0 = omega arith in
+    let waits : c.booking-b.result.stands ≡ 0 = eqb-true _ _ (sym c.if-not-is_waiting.ensures) in
     let first : First h c.bookings.k = record {
       there = omega (arith, c.booking_count-k-end.ensures);
       can =
