@@ -16,7 +16,7 @@ ghost use Rattle.text.specs.CallLines.{line_call};
 ghost use Rattle.player.specs.Texts.{PlaysLine, RunEnded, StatementsHold, TextPlayed, ended_by, passed_over, text_calls};
 ghost use Rattle.player.specs.declared.LineFault.TheVariants as line;
 
-use driver::{Device, play_row, play_unread, take_up};
+use driver::{Buffers, Device, play_row, play_unread, take_up};
 use flash::PowerFailed;
 use scan::read_line;
 use session::Session;
@@ -80,8 +80,7 @@ fn play_line<D: Device>(
     device: &mut D,
     session: &mut Session,
     m: &mut Memory,
-    page: &mut [u8; 512],
-    out: &mut [u8; 256],
+    buffers: &mut Buffers,
     line: &[u8],
 ) -> Result<(), LineFault>
     requires ready { Ready session.old m.old }
@@ -93,7 +92,7 @@ fn play_line<D: Device>(
     let read = match read_call(heap, line) {
         Ok(read) => read,
         Err(NoCall::Unreadable { place }) => {
-            return Ok(play_unread(device, session, m, page, out, place as u64)?);
+            return Ok(play_unread(device, session, m, buffers, place as u64)?);
         }
         Err(NoCall::NoMemory) => return Err(LineFault::NoMemory),
     };
@@ -101,7 +100,7 @@ fn play_line<D: Device>(
     let Some(length) = encode_call(read.call, read.list.as_slice(), &mut row) else {
         unreachable()
     };
-    Ok(play_row(device, session, m, page, out, &row[..length])?)
+    Ok(play_row(device, session, m, buffers, &row[..length])?)
 }
 
 // Plays the lines of a text, one after the other, until it ends or power fails.
@@ -118,8 +117,7 @@ pub fn play_text<D: Device>(
     ensures played { TextPlayed session.old m.old (text_calls text.now) (D.Device.chip device.old) (D.Device.told device.old) (D.Device.chip device.new) (D.Device.told device.new) result }
     ensures lent { Lent m.old m.new }
 {
-    let mut page = [0; 512];
-    let mut out = [0; 256];
+    let mut buffers = Buffers::new();
     let mut rest = text;
     while !rest.is_empty() {
         let next = read_line(rest);
@@ -127,7 +125,7 @@ pub fn play_text<D: Device>(
         if is_passed_over(next.line) {
             continue;
         }
-        play_line(heap, device, session, m, &mut page, &mut out, next.line)?;
+        play_line(heap, device, session, m, &mut buffers, next.line)?;
     }
     Ok(())
 }
