@@ -27,7 +27,7 @@ use text::houses::HouseLine;
 
 // Prints an answer, unless it is the act in which power fails. Gives whether power held.
 fn say(rt: &HostRuntime, power: &mut Power, answer: Answer, list: &[u64]) -> io::Result<bool> {
-    if power.fails() {
+    if power.spend().is_err() {
         return Ok(false);
     }
     let line = AnswerLine { answer, list };
