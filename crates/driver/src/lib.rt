@@ -3,7 +3,7 @@
 // what the chip holds and which answers were given. What is proved here is proved of every device.
 #![tactic(auto)]
 
-ghost use Rattle.std.specs.Prelude.{◌≡◌, ℕ, ◌*◌, ◌<◌, ◌≤◌, true, false, is_ok, List};
+ghost use Rattle.std.specs.Prelude.{◌≡◌, ℕ, ◌*◌, ◌<◌, ◌≤◌, true, false, is_ok, List, replicate};
 ghost use Rattle.meaning.specs.Calls.{Answer as Given, garbled, new_house};
 ghost use Rattle.meaning.specs.Chip.{Chip};
 ghost use Rattle.journal.specs.Acts.{write, wipe, say};
@@ -60,13 +60,34 @@ pub trait Device {
         ensures size { blocks self.new ≡ blocks self.old };
 }
 
+// Room for what a session has written: the bytes of a page, and those of an answer.
+//
+// Kept: a device, a session and its memory stay parameters of their own beside it. Every clause speaks
+// of each of the three, before and after; in one struct each would only be named by a field more.
+#[derive(Drop)]
+pub struct Buffers {
+    page: [u8; 512],
+    out: [u8; 256],
+}
+
+impl Buffers {
+    // Room in which nothing stands yet.
+    pub fn new() -> Buffers
+        ensures { (result.page ≡ replicate 512 0) × (result.out ≡ replicate 256 0) }
+    {
+        Buffers {
+            page: [0; 512],
+            out: [0; 256],
+        }
+    }
+}
+
 // Does the next act of a session on a device.
 fn act<D: Device>(
     device: &mut D,
     session: &mut Session,
     m: &Memory,
-    page: &mut [u8; 512],
-    out: &mut [u8; 256],
+    buffers: &mut Buffers,
 ) -> Result<(), PowerFailed>
     requires ready { Ready session.old m.now }
     requires owed { at_rest session.old ≡ false }
@@ -75,9 +96,9 @@ fn act<D: Device>(
     ensures kept { Kept session.old session.new m.now }
     ensures size { D.Device.blocks device.new ≡ D.Device.blocks device.old }
 {
-    match session.step(m, page, out) {
+    match session.step(m, &mut buffers.page, &mut buffers.out) {
         Effect::Rest => unreachable(),
-        Effect::Write { page: place } => device.write(place, page),
+        Effect::Write { page } => device.write(page, &buffers.page),
         Effect::Erase { block } => device.erase(block),
         Effect::Say { length: _length } => device.say(session.answer(), session.listed()),
     }
@@ -88,8 +109,7 @@ pub fn finish<D: Device>(
     device: &mut D,
     session: &mut Session,
     m: &Memory,
-    page: &mut [u8; 512],
-    out: &mut [u8; 256],
+    buffers: &mut Buffers,
 ) -> Result<(), PowerFailed>
     requires ready { Ready session.old m.now }
     requires size { room_for (chip_limits m.now.limits) ≤ D.Device.blocks device.old }
@@ -99,7 +119,7 @@ pub fn finish<D: Device>(
     ensures size { D.Device.blocks device.new ≡ D.Device.blocks device.old }
 {
     while !session.is_resting() {
-        act(device, session, m, page, out)?;
+        act(device, session, m, buffers)?;
     }
     Ok(())
 }
@@ -110,8 +130,7 @@ pub fn play_row<D: Device>(
     device: &mut D,
     session: &mut Session,
     m: &mut Memory,
-    page: &mut [u8; 512],
-    out: &mut [u8; 256],
+    buffers: &mut Buffers,
     row: &[u8],
 ) -> Result<(), PowerFailed>
     requires ready { Ready session.old m.old }
@@ -124,7 +143,7 @@ pub fn play_row<D: Device>(
     if !begun {
         unreachable()
     }
-    finish(device, session, m, page, out)
+    finish(device, session, m, buffers)
 }
 
 // Plays what can't be read as a call, from this place on: it is refused there.
@@ -132,8 +151,7 @@ pub fn play_unread<D: Device>(
     device: &mut D,
     session: &mut Session,
     m: &Memory,
-    page: &mut [u8; 512],
-    out: &mut [u8; 256],
+    buffers: &mut Buffers,
     place: u64,
 ) -> Result<(), PowerFailed>
     requires ready { Ready session.old m.now }
@@ -146,7 +164,7 @@ pub fn play_unread<D: Device>(
     if !begun {
         unreachable()
     }
-    finish(device, session, m, page, out)
+    finish(device, session, m, buffers)
 }
 
 // Hands the page that was read to a start.

@@ -17,7 +17,7 @@ ghost use Rattle.player.specs.Texts.{PlaysLine, RunEnded, StatementsHold, TextPl
 ghost use Rattle.player.specs.declared.LineFault.TheVariants as line;
 
 use call_files::{is_passed_over, read_row};
-use driver::{Device, play_row, play_unread, take_up};
+use driver::{Buffers, Device, play_row, play_unread, take_up};
 use flash::PowerFailed;
 use scan::Lines;
 use session::Session;
@@ -70,8 +70,7 @@ fn play_line<D: Device>(
     device: &mut D,
     session: &mut Session,
     m: &mut Memory,
-    page: &mut [u8; 512],
-    out: &mut [u8; 256],
+    buffers: &mut Buffers,
     line: &[u8],
 ) -> Result<(), LineFault>
     requires ready { Ready session.old m.old }
@@ -82,9 +81,9 @@ fn play_line<D: Device>(
 {
     let mut row = [0; MAX_CALL];
     match read_row(heap, line, &mut row) {
-        Ok(row) => Ok(play_row(device, session, m, page, out, row)?),
+        Ok(row) => Ok(play_row(device, session, m, buffers, row)?),
         Err(NoCall::Unreadable { place }) => {
-            Ok(play_unread(device, session, m, page, out, place as u64)?)
+            Ok(play_unread(device, session, m, buffers, place as u64)?)
         }
         Err(NoCall::NoMemory) => Err(LineFault::NoMemory),
     }
@@ -104,14 +103,13 @@ pub fn play_text<D: Device>(
     ensures played { TextPlayed session.old m.old (text_calls text.now) (D.Device.chip device.old) (D.Device.told device.old) (D.Device.chip device.new) (D.Device.told device.new) result }
     ensures lent { Lent m.old m.new }
 {
-    let mut page = [0; 512];
-    let mut out = [0; 256];
+    let mut buffers = Buffers::new();
     let mut lines = Lines::new(text);
     while let Some(line) = lines.next() {
         if is_passed_over(line) {
             continue;
         }
-        play_line(heap, device, session, m, &mut page, &mut out, line)?;
+        play_line(heap, device, session, m, &mut buffers, line)?;
     }
     Ok(())
 }
