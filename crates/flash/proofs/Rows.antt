@@ -12,10 +12,6 @@ pub filled : (row bs : List ℕ) (how : ℕ) → length row ≡ 513 → put_mid 
 filled [] bs how e = absurd (omega arith)
 filled (x ∷ row) bs how e = ap (λ r. how ∷ (bs ++ r)) (drop_all 512 row (omega arith)) ∙ ap (λ r. how ∷ r) (append-nil bs)
 
--- the row of a page that is there
-pub row_of_page : (w : List ℕ) (k : ℕ) → k * 513 + 513 ≤ length w → row_at w k ≡ get_or w (k * 513) 0 ∷ take 512 (drop (k * 513 + 1) w)
-row_of_page w k h = ap (take 513) (drop_more w (k * 513) 0 (omega arith))
-
 -- a row put in the place of row k
 pub put : (k a n : ℕ) (w row : List ℕ) → k * 513 + 513 ≤ length w → length row ≡ 513 → a ≡ k * 513 → n ≡ 513 → RowPut k row w (put_mid a n w row)
 put k a n w row h l p q = record { as_long = search (rules, places); rows = λ j. at j (cases_order j k) }

@@ -78,6 +78,8 @@ impl From<u8> for Left {
 pub struct PowerFailed;
 
 // When power fails, counted in acts (0 is never), and what it leaves of each page of the act.
+//
+// Kept: 0 for never, and numbers in the tear, are how the programs' words and lists say them.
 #[derive(Clone, Copy)]
 pub struct Power {
     pub acts: u64,
