@@ -131,19 +131,19 @@ pub trait Stage {
 
     // Pays a booking.
     fn pay(m: &mut Memory, booking: u32) -> Answer
-            ensures { Answered can m.old m.new (pays booking) result [] };
+        ensures { Answered can m.old m.new (pays booking) result [] };
 
     // Cancels a booking.
     fn cancel(m: &mut Memory, booking: u32) -> Answer
-            ensures { Answered can m.old m.new (cancels booking) result [] };
+        ensures { Answered can m.old m.new (cancels booking) result [] };
 
     // Gives a leg the limits that a part lists.
     fn change_limits(m: &mut Memory, leg: u32, part: &[u8]) -> Answer
-            ensures { Answered can m.old m.new (limits_to leg (numbers_in part.now)) result [] };
+        ensures { Answered can m.old m.new (limits_to leg (numbers_in part.now)) result [] };
 
     // Lets so many ticks go by.
     fn pass_time(m: &mut Memory, count: u32) -> Answer
-            ensures { Answered can m.old m.new (ticks count) result [] };
+        ensures { Answered can m.old m.new (ticks count) result [] };
 
     // What can be done at the first stage can be done at each.
     ghost first: { (k : ℕ) → thin k ≡ true → can k ≡ true };

@@ -1,5 +1,5 @@
 -- What a cancellation is answered, and what it leaves.
-use Rattle.std.proofs.Common.{◌≡◌, ℕ, ◌<◌, Bool, length, refl, ap, ◌∙◌, ap₂, arith}
+use Rattle.std.proofs.Common.{◌≡◌, ℕ, ◌<◌, Bool, length, refl, ap, ◌∙◌, ap₂}
 use Rattle.std.proofs.lemmas.Bool.{lt-ltb}
 use Rattle.meaning.specs.Lines.{pick}
 use Rattle.meaning.specs.House.{House, stand}

@@ -1,5 +1,5 @@
 -- Each check is the meaning's own test, which goes over the list in the same way.
-use Rattle.std.proofs.Common.{◌≡◌, ℕ, zero, suc, ◌+◌, ◌<◌, ◌≤◌, Bool, true, false, not, ◌&&◌, ◌||◌, eqb, ltb, leb, List, [], ◌∷◌, length, get_or, take, drop, add-one, Option, Some, None, refl, sym, ap, ◌∙◌, subst, arith, Bor}
+use Rattle.std.proofs.Common.{◌≡◌, ℕ, zero, suc, ◌<◌, ◌≤◌, Bool, true, false, not, ◌&&◌, ◌||◌, eqb, ltb, leb, List, [], ◌∷◌, length, get_or, take, drop, add-one, refl, sym, ap, ◌∙◌, subst, arith}
 use Rattle.std.specs.List.{list_all, list_any, IsAllAdjacentAnswer}
 use Rattle.std.specs.Slice.Iter.{windows_rest, windows_size, windows_steps}
 use Rattle.std.specs.declared.slice.Windows.{Windows}
@@ -91,9 +91,9 @@ twos_end (i ∷ (j ∷ is)) h = absurd (omega arith)
 pub windows_two : (s : Windows ℕ) (is : List ℕ) → windows_size s ≡ 2 → windows_rest s ≡ is → YieldsList windows_steps (λ w. w.now) s (twos is)
 windows_two s is e r = subst (λ v. YieldsList windows_steps (λ w. w.now) s (twos v)) r
     (YieldsList-from_shown_while windows_steps (λ w. w.now) (λ t. twos (windows_rest t)) (λ t. windows_size t ≡ 2)
-        (λ a b p h. twos_end (windows_rest a) (omega (arith, h.1.0)))
-        (λ a x b p h. (h.0 ∙ p, twos_step (windows_rest a) x.now (omega (arith, h.1.0)) (h.1.1 ∙ ap (λ n. take n (windows_rest a)) p) ∙ ap (λ v. x.now ∷ twos v) (sym h.1.2)))
-        s e)
+    (λ a b p h. twos_end (windows_rest a) (omega (arith, h.1.0)))
+    (λ a x b p h. (h.0 ∙ p, twos_step (windows_rest a) x.now (omega (arith, h.1.0)) (h.1.1 ∙ ap (λ n. take n (windows_rest a)) p) ∙ ap (λ v. x.now ∷ twos v) (sym h.1.2)))
+    s e)
 
 -- a window of two, of a list whose numbers are all below n
 pub record Two (w : List ℕ) (n : ℕ) : Type 0 where

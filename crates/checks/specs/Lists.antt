@@ -1,5 +1,5 @@
 -- What is read of the list of a call. Definitions only: nothing is assumed or proved here.
-use Rattle.std.specs.Prelude.{◌≡◌, ℕ, ◌+◌, ◌<◌, ◌≤◌, Bool, true, false, ◌&&◌, List, length, take, Some, None, Option, ◌==◌, nat_le, nat_lt}
+use Rattle.std.specs.Prelude.{◌≡◌, ℕ, ◌+◌, ◌≤◌, Bool, true, false, ◌&&◌, List, length, Some, None, Option, ◌==◌, nat_le, nat_lt}
 use Rattle.meaning.specs.Lines.{Leg, leg}
 use Rattle.meaning.specs.Calls.{good_limits}
 use Rattle.arrayvec.specs.ArrayVec.{ArrayVec}

@@ -2,7 +2,7 @@
 use Rattle.std.proofs.Common.{◌≡◌, ℕ, zero, suc, ◌+◌, ◌-◌, ◌<◌, ◌≤◌, min, Bool, true, false, ◌&&◌, cond, eqb, ltb, leb, List, [], ◌∷◌, map, length, get_or, take, drop, Some, None, Option, sym, refl, ap, ◌∙◌, add-one, arith}
 use Rattle.std.specs.List.{filter, fold, reduce}
 use Rattle.std.specs.Option.{option_map}
-use Rattle.std.proofs.lemmas.List.{drop_more, drop-take, drop-drop, get_or-take, at_drop_more, at_drop_all, length-drop}
+use Rattle.std.proofs.lemmas.List.{drop_more, drop-take, drop-drop, get_or-take, length-drop}
 use Rattle.std.proofs.lemmas.Bool.Decides.{nat_tests}
 use Rattle.meaning.specs.Lines.{pick, Leg, Fare, last_of, fits_fare, cheaper, piece, plus, by_first, by_any, cost_in, cost}
 use Rattle.meaning.specs.Statements.{Cheapest}

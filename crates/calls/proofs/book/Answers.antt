@@ -1,5 +1,5 @@
 -- Out of range, or booked on the journey that was read.
-use Rattle.std.proofs.Common.{◌≡◌, ◌≤◌, [], length, sym, refl, ◌∙◌, subst, arith}
+use Rattle.std.proofs.Common.{◌≤◌, [], length, sym, refl, ◌∙◌, subst}
 use Rattle.std.proofs.lemmas.Bool.{and_left, and_right, and_parts, ltb-true, leb-true}
 use Rattle.meaning.specs.Calls.{books, good_fields, place}
 use Rattle.protocol.specs.Forms.{answer_of}

@@ -56,7 +56,7 @@ unfolding turned_by place
 returns-in_default-next_number-clause-meant c =
     let leaves : (leg (house c.args.m.now).legs (first_leg c.args.legs.now)).leaves ≡ c.leg.result.leaves = ap (λ i. (leg (house c.args.m.now).legs i).leaves) (first_is c.args.legs.now) ∙ sym (ap (λ (g : Leg). g.leaves) c.leg.ensures.means) in
     refuses _ _ _ _ _ _ c.at-in_default-next_number.ensures refl refl (books_range _ _ _ c.requires.asks)
-        (λ can. grind (arith, nat_tests, leaves, c.clock.ensures, c.if-not-are_there.ensures, c.if-not-connect.ensures, c.if-not-are_apart.ensures, c.in-Some.ensures.value, c.in_default-next_number.ensures, c.booking_count.ensures, ap (λ (l : Limits). l.bookings) c.limits.ensures))
+    (λ can. grind (arith, nat_tests, leaves, c.clock.ensures, c.if-not-are_there.ensures, c.if-not-connect.ensures, c.if-not-are_apart.ensures, c.in-Some.ensures.value, c.in_default-next_number.ensures, c.booking_count.ensures, ap (λ (l : Limits). l.bookings) c.limits.ensures))
 
 pub push_booking-requires : goal.push_booking-requires
 push_booking-requires c = record {

@@ -26,4 +26,4 @@ pub returns-clause-meant : goal.returns-clause-meant
 unfolding good_fields turned_by changed told
 returns-clause-meant c =
     takes _ _ _ _ _ (sym c.if-not-fare_in_range.ensures) (λ can. grind (arith, nat_tests, c.in-Some.ensures.1, c.fare_count.ensures, ap (λ (l : Limits). l.fares) c.limits.ensures))
-        (ap number (omega (arith, c.in-Some.ensures.0, c.fare_count.ensures))) c.push_fare.ensures.house
+    (ap number (omega (arith, c.in-Some.ensures.0, c.fare_count.ensures))) c.push_fare.ensures.house

@@ -1,5 +1,5 @@
 -- Out of range, one that has left, one too many, or opened.
-use Rattle.std.proofs.Common.{◌≡◌, length, sym, refl, ap, ◌∙◌, subst, arith}
+use Rattle.std.proofs.Common.{sym, refl, ap, ◌∙◌, subst, arith}
 use Rattle.std.proofs.lemmas.Bool.{and_from, and_left, and_right}
 use Rattle.std.proofs.lemmas.Bool.Decides.{nat_tests}
 use Rattle.meaning.specs.Calls.{good_limits, number, turned_by, place, changed, told}
@@ -49,6 +49,6 @@ returns-clause-meant c =
     let s = c.args.schedule.now in
     let new = c.with.ensures ∙ ap (leg_of s.from s.to s.leaves s.arrives) (c.as_slice.ensures.value ∙ c.in-Some.ensures.is) in
     takes _ _ _ _ _ (opens_range _ _ _ _ _ ∙ and_from _ _ (sym c.if-not-is_in_range.ensures) c.in-Some.ensures.good)
-        (λ can. grind (arith, nat_tests, c.clock.ensures, c.in-Some-next_number.ensures.1, c.leg_count.ensures, ap (λ (l : Limits). l.legs) c.limits.ensures))
-        (ap number (omega (arith, c.in-Some-next_number.ensures.0, c.leg_count.ensures)))
-        (c.push_leg.ensures.house ∙ ap (plus_leg (house c.args.m.now)) (ap leg_means new ∙ leg_of_means s.from s.to s.leaves s.arrives _))
+    (λ can. grind (arith, nat_tests, c.clock.ensures, c.in-Some-next_number.ensures.1, c.leg_count.ensures, ap (λ (l : Limits). l.legs) c.limits.ensures))
+    (ap number (omega (arith, c.in-Some-next_number.ensures.0, c.leg_count.ensures)))
+    (c.push_leg.ensures.house ∙ ap (plus_leg (house c.args.m.now)) (ap leg_means new ∙ leg_of_means s.from s.to s.leaves s.arrives _))

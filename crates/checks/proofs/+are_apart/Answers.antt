@@ -1,4 +1,4 @@
-use Rattle.std.proofs.Common.{◌≡◌, Bool, true, not, ◌&&◌, List, [], length, sym, refl, ap, ◌∙◌, arith}
+use Rattle.std.proofs.Common.{not, ◌&&◌, sym, ap, ◌∙◌}
 use Rattle.meaning.specs.Calls.{no_twice}
 use Rattle.checks.proofs.Steps.{apart_is, none_apart}
 use Rattle.checks.proofs.+are_apart.Goals as goal

@@ -1,5 +1,5 @@
 -- Each window's two legs are legs of the journey, so they are there; and all windows are all neighbours.
-use Rattle.std.proofs.Common.{◌≡◌, ◌<◌, length, get_or, refl, sym, ◌∙◌, subst, rules, tests}
+use Rattle.std.proofs.Common.{length, get_or, refl, sym, ◌∙◌, rules, tests}
 use Rattle.std.proofs.iter.Serving.{same}
 use Rattle.std.proofs.lemmas.Iterator.Consumers.{YieldsList-turn}
 use Rattle.std.proofs.lemmas.Iterator.Search.{all_from_yields_List}
@@ -24,5 +24,5 @@ all-requires-clause-callable c = record {
 pub returns : goal.returns
 returns c =
     all_from_yields_List (λ w. legs_join (house c.args.m.now).legs (house c.args.m.now).gap (get_or w 0 0) (get_or w 1 0)) _ _ c.all.result c.all.ensures.ran
-        (windows_two c.windows.result c.args.journey.now c.windows.ensures.size c.windows.ensures.rest) (λ x b q k. search (rules, tests))
+    (windows_two c.windows.result c.args.journey.now c.windows.ensures.size c.windows.ensures.rest) (λ x b q k. search (rules, tests))
     ∙ sym (follows_is (house c.args.m.now).legs (house c.args.m.now).gap c.args.journey.now)

@@ -14,4 +14,4 @@ unfolding good_fields turned_by changed told
 returns c =
     let e = c.booking-b.ensures.means in
     takes _ _ _ _ _ refl (λ can. grind (arith, nat_tests, c.booking_count.ensures))
-        (λ d. stands_so ((c.from.ensures ∙ ap (λ (b : Booking). b.stands) e) d) ((c.from-2.ensures ∙ ap (λ (b : Booking). b.until) e) d) (ap (λ (b : Booking). b.paid) e d)) refl
+    (λ d. stands_so ((c.from.ensures ∙ ap (λ (b : Booking). b.stands) e) d) ((c.from-2.ensures ∙ ap (λ (b : Booking). b.until) e) d) (ap (λ (b : Booking). b.paid) e d)) refl

@@ -20,4 +20,4 @@ pub returns : goal.returns
 unfolding good_fields turned_by changed told
 returns c =
     takes _ _ _ _ _ (grind (arith, nat_tests)) (λ can. grind (arith, nat_tests, c.leg_count.ensures, c.leg-g.ensures.classes))
-        (ap number (c.from.ensures ∙ c.free_seats.ensures)) refl
+    (ap number (c.from.ensures ∙ c.free_seats.ensures)) refl

@@ -28,5 +28,5 @@ returns-clause-meant c =
     let l : length (take n c.args.sold.now) ≡ n = length-take-le n c.args.sold.now (omega (arith, c.told-sold, c.leg-classes.ensures.fine.classes)) in
     let e : c.loop-class.class ≡ n = omega arith in
     let written = take_at c.loop-class.count-items _ n (omega arith) ∙ sym (take_all n c.loop-class.count-items (omega arith)) ∙ ap (λ k. take k c.loop-class.count-items) (sym e) ∙ c.loop-class.invariant
-        ∙ ap (each_class (house c.args.m.now).bookings c.args.leg 0) (e ∙ c.leg-classes.ensures.classes) in
+    ∙ ap (each_class (house c.args.m.now).bookings c.args.leg 0) (e ∙ c.leg-classes.ensures.classes) in
     takes _ _ _ _ _ refl (λ can. grind (arith, nat_tests, c.leg_count.ensures)) (ap sold written) refl

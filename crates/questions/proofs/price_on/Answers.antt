@@ -38,4 +38,4 @@ pub returns : goal.returns
 unfolding good_fields turned_by changed told
 returns c =
     takes _ _ _ _ _ (grind (arith, nat_tests)) (λ can. grind (arith, nat_tests, c.if-not-are_there.ensures, c.if-not-connect.ensures, c.if-not-are_apart.ensures, c.in-Some.ensures.value))
-        (ap number (omega (arith, c.in-Some.ensures.value))) refl
+    (ap number (omega (arith, c.in-Some.ensures.value))) refl
