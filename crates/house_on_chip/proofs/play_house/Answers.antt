@@ -2,7 +2,7 @@
 use Rattle.std.proofs.Common.{◌≡◌, ◌≤◌, length, sym, ap, ◌∙◌, subst, arith}
 use Rattle.meaning.specs.Calls.{new_house}
 use Rattle.meaning.specs.Promise.{room_for, whole}
-use Rattle.limits.specs.Opening.{lengths, limits_mean, misfit_of}
+use Rattle.limits.specs.Opening.{lengths, limits_mean}
 use Rattle.limits.specs.declared.Limits.{Limits}
 use Rattle.journal_steps.specs.Steps.{chip_limits}
 use Rattle.house_on_chip.proofs.Sizes.{memory_fits}
