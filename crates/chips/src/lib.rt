@@ -13,11 +13,10 @@ ghost use Rattle.chips.specs.Recorded.{Counted, blocks_in, chip_of, told_by};
 
 mod said;
 
-pub use said::Said;
-
 use driver::Device;
 use flash::{Left, PageRead, PageState, Power, PowerFailed, erase_block, read_page, write_page};
 use protocol::Answer;
+pub use said::Said;
 use std::alloc::Global;
 
 // A chip in lent memory, when power fails, and the answers that were given.

@@ -77,8 +77,9 @@ fn answer_line(heap: Global, m: &mut Memory, line: &[u8]) -> anyhow::Result<Said
     };
     let mut sold = [0; 26];
     let reply = answer_row::<EveryCall>(m, row, &mut sold);
-    Said::new(reply.answer, &sold[..reply.listed])
-        .ok_or_else(|| anyhow!("a list that is longer than any answer's"))
+    Said::new(reply.answer, &sold[..reply.listed]).ok_or_else(|| anyhow!(
+        "a list that is longer than any answer's"
+    ))
 }
 
 // Plays at most so many lines on a house in memory, and records the answers.
