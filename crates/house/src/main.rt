@@ -141,6 +141,8 @@ fn perform<'a>(rt: &HostRuntime, words: &'a [String]) -> Result<(), Trouble<'a>>
 }
 
 // The words behind the program's name.
+// Kept: a word is the outside's, of which no contract can speak, so a function that all programs share
+// would promise nothing.
 fn words(rt: &HostRuntime) -> io::Result<Vec<String>> {
     let mut words = Vec::new(rt.alloc());
     for word in env::args(rt)?.skip(1) {

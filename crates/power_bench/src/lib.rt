@@ -17,7 +17,7 @@ use every_call::EveryCall;
 use flash::Power;
 use limits::{Limits, Sizes};
 use player::{Unfinished, run};
-use scan::read_line;
+use scan::Lines;
 use std::alloc::{AllocError, Global};
 use store::{Memory, open};
 use text::NoCall;
@@ -95,14 +95,8 @@ fn play(
     ensures sound { Sound m.new }
     ensures idle { Idle m.new }
 {
-    let mut rest = text;
-    for _ in 0..most {
-        if rest.is_empty() {
-            return Ok(());
-        }
-        let next = read_line(rest);
-        rest = next.rest;
-        let one = answer_line(heap, m, next.value)?;
+    for line in Lines::new(text).take(most) {
+        let one = answer_line(heap, m, line)?;
         said.push(one)?;
     }
     Ok(())

@@ -11,20 +11,31 @@ use limits::Limits;
 use player::Unfinished;
 use power_bench::{Bench, NEVER, ROW, fill_page};
 use power_stories::{Story, skip_lines};
-use protocol::Answer;
+use protocol::Refusal;
 use std::alloc::{AllocError, Global};
 
-// Lines that are no calls, and the first byte of each that doesn't fit: an unknown word; the same
+// Lines that are no calls, each with the first of its bytes that doesn't fit: an unknown word; the same
 // behind two spaces; a line that is too short, so its length; a number too many; a letter for a number;
 // another word before the list; a number above 32 bits; a letter in a list.
-const GARBLED: &str =
-    "pray 0\n  pray 0\nfree 0\nfree 0 1 2\nfree 0 x\nbook 1 2 at 0\nleg 4294967296\nopen 1 2 100 200 limits 5 3 z\n";
-
-const PLACES: [u64; 8] = [0, 2, 6, 9, 7, 9, 4, 28];
+const GARBLED: [(&str, u64); 8] = [
+    ("pray 0\n", 0),
+    ("  pray 0\n", 2),
+    ("free 0\n", 6),
+    ("free 0 1 2\n", 9),
+    ("free 0 x\n", 7),
+    ("book 1 2 at 0\n", 9),
+    ("leg 4294967296\n", 4),
+    ("open 1 2 100 200 limits 5 3 z\n", 28),
+];
 
 // Calls whose numbers are out of range: limits that rise, no ticks, too many, a class that none has. Each
-// is refused 2 at 0.
-const OUT_OF_RANGE: &str = "limits 0 to 1 2 1\nticks 0\nticks 65537\nfree 0 26\n";
+// is refused at 0.
+const OUT_OF_RANGE: [(&str, u64); 4] = [
+    ("limits 0 to 1 2 1\n", 0),
+    ("ticks 0\n", 0),
+    ("ticks 65537\n", 0),
+    ("free 0 26\n", 0),
+];
 
 // Limits of other houses, for which the same memory and chip are large enough.
 const OTHERS: [Limits; 5] = [
@@ -146,30 +157,29 @@ pub fn try_other_pages(
     Ok(edits.len())
 }
 
-// Plays lines that are refused, each with this number at this place, on a chip that has the whole list.
-// They change nothing.
+// Plays lines that are refused for this, each at its place, on a chip that has the whole list. They
+// change nothing.
 fn try_lines(
     rt: &HostRuntime,
     bench: &mut Bench,
     story: &Story,
-    text: &str,
-    number: u64,
-    places: &[u64],
+    refusal: Refusal,
+    lines: &[(&str, u64)],
 ) -> anyhow::Result<usize>
-    ensures { IfOk result (λ n. n ≡ length places.now) }
+    ensures { IfOk result (λ n. n ≡ length lines.now) }
 {
-    let life = bench.live(rt.alloc(), NEVER, text.as_bytes())?;
-    for (one, wanted) in life.said.as_slice().iter().zip(places.iter()) {
-        let refusal = Answer::Refused {
-            refusal: number,
-            place: *wanted,
-        };
-        if one.answer != refusal {
+    let mut text = String::new(rt.alloc());
+    for (line, _) in lines {
+        text.push_str(line)?;
+    }
+    let life = bench.live(rt.alloc(), NEVER, text.as_str().as_bytes())?;
+    for (one, (_, place)) in life.said.as_slice().iter().zip(lines.iter()) {
+        if one.answer != refusal.at(*place) {
             return Err(anyhow!("a line is refused otherwise"));
         }
     }
     let count = life.said.len();
-    if count != places.len() || !skip_lines(text.as_bytes(), count).is_empty() {
+    if count != lines.len() || !skip_lines(text.as_str().as_bytes(), count).is_empty() {
         return Err(anyhow!("a line has no answer"));
     }
     if story.ask(rt, bench, NEVER, story.len())? {
@@ -182,12 +192,12 @@ fn try_lines(
 pub fn try_garbled(rt: &HostRuntime, bench: &mut Bench, story: &Story) -> anyhow::Result<usize>
     ensures { IfOk result (λ n. n ≡ 8) }
 {
-    try_lines(rt, bench, story, GARBLED, 1, &PLACES)
+    try_lines(rt, bench, story, Refusal::NoCall, &GARBLED)
 }
 
 // Plays calls that are out of range. Gives how many.
 pub fn try_out_of_range(rt: &HostRuntime, bench: &mut Bench, story: &Story) -> anyhow::Result<usize>
     ensures { IfOk result (λ n. n ≡ 4) }
 {
-    try_lines(rt, bench, story, OUT_OF_RANGE, 2, &[0; 4])
+    try_lines(rt, bench, story, Refusal::OutOfRange, &OUT_OF_RANGE)
 }

@@ -73,13 +73,10 @@ pub fn cut_everywhere(
         later: 0,
         compared: 0,
     };
-    for act in 0..acts {
+    for acts in 1..=acts {
         for tear in TEARS {
             bench.set_pages(start)?;
-            let power = Power {
-                acts: act.saturating_add(1),
-                tear,
-            };
+            let power = Power { acts, tear };
             let outcome = story.fail(rt, bench, known, power)?;
             if !outcome.failed {
                 return Err(anyhow!("power did not fail"));
@@ -127,11 +124,11 @@ pub fn cut_again(
     acts: u64,
 ) -> anyhow::Result<u64> {
     let mut runs = 0u64;
-    for act in 0..acts {
+    for first in 1..=acts {
         for second in SECOND {
             bench.set_pages(start)?;
-            let third = act % 13 + 1;
-            fail_thrice(rt, bench, story, [act.saturating_add(1), second, third])?;
+            let third = (first - 1) % 13 + 1;
+            fail_thrice(rt, bench, story, [first, second, third])?;
             runs = runs.saturating_add(1);
         }
     }

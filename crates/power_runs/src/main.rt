@@ -18,7 +18,7 @@ use power_others::mishaps::play_mishaps;
 use power_others::{
     log_begins, rubbish, try_garbled, try_other_limits, try_other_pages, try_out_of_range,
 };
-use power_stories::{Story, print_answer};
+use power_stories::{Story, print_said};
 use scan::read_line;
 
 // A house whose log is always one block long.
@@ -92,8 +92,7 @@ fn wear(
     known: usize,
     count: usize,
 ) -> anyhow::Result<()> {
-    for i in 0..count {
-        let place = known.saturating_add(i);
+    for place in known..known.saturating_add(count) {
         for torn in 0..16 {
             let power = Power {
                 acts: if torn == 0 { 2 } else { 1 },
@@ -140,8 +139,8 @@ fn run_small(rt: &HostRuntime) -> anyhow::Result<()> {
     let calls = with_bookings(heap, FIRST_STAGE, 3, 49)?;
     let asked = with_questions(heap, QUESTIONS, 48)?;
     let story = Story::new(heap, &mut bench, calls, asked)?;
-    for i in 0..18 {
-        print_answer(rt, "", story.given(), i)?;
+    for one in story.given().iter().take(18) {
+        print_said(rt, "", one)?;
     }
     let blank = copy_of(rt, &bench)?;
     let tally = cut_everywhere(rt, &mut bench, &story, 0, blank.as_slice())?;
@@ -166,8 +165,8 @@ fn run_example(rt: &HostRuntime) -> anyhow::Result<()> {
     let calls = with_bookings(heap, WORKED_EXAMPLE, 4, 4)?;
     let asked = with_questions(heap, QUESTIONS, 4)?;
     let story = Story::new(heap, &mut bench, calls, asked)?;
-    for i in 14..24 {
-        print_answer(rt, "", story.given(), i)?;
+    for one in story.given().iter().skip(14).take(10) {
+        print_said(rt, "", one)?;
     }
     let blank = copy_of(rt, &bench)?;
     let tally = cut_everywhere(rt, &mut bench, &story, 0, blank.as_slice())?;

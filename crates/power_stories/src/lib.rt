@@ -38,6 +38,7 @@ pub struct Outcome {
 pub fn skip_lines(text: &[u8], count: usize) -> &[u8]
     ensures { result.now ≡ behind count text.now }
 {
+    // Kept: lines are only counted here, and nothing is indexed.
     let mut rest = text;
     for _ in 0..count {
         rest = read_line(rest).rest;
@@ -45,23 +46,22 @@ pub fn skip_lines(text: &[u8], count: usize) -> &[u8]
     rest
 }
 
-// Is an answer this one.
-fn is_same(a: &Said, b: &Said) -> bool {
-    a == b
-}
-
 // The place of the first answer in which two lists differ.
 fn difference(a: &[Said], b: &[Said]) -> Option<usize> {
-    for (i, (x, y)) in a.iter().zip(b.iter()).enumerate() {
-        if !is_same(x, y) {
-            return Some(i);
-        }
+    match a.iter().zip(b.iter()).position(|(x, y)| x != y) {
+        None if a.len() != b.len() => Some(a.len().min(b.len())),
+        place => place,
     }
-    if a.len() == b.len() {
-        None
-    } else {
-        Some(a.len().min(b.len()))
-    }
+}
+
+// Prints an answer.
+pub fn print_said(rt: &HostRuntime, whose: &str, one: &Said) -> anyhow::Result<()> {
+    let line = AnswerLine {
+        answer: one.answer,
+        list: one.list(),
+    };
+    println!(rt; "{whose}{line}")?;
+    Ok(())
 }
 
 // Prints an answer of a list, if there is one.
@@ -72,16 +72,12 @@ pub fn print_answer(
     place: usize,
 ) -> anyhow::Result<()> {
     match said.get(place) {
-        Some(one) => {
-            let line = AnswerLine {
-                answer: one.answer,
-                list: one.list(),
-            };
-            println!(rt; "{whose}{line}")?;
+        Some(one) => print_said(rt, whose, one),
+        None => {
+            println!(rt; "{whose}no answer")?;
+            Ok(())
         }
-        None => println!(rt; "{whose}no answer")?,
     }
-    Ok(())
 }
 
 // Prints when power was to fail, and the line whose answer differs.
@@ -105,7 +101,7 @@ impl Story {
     ) -> anyhow::Result<Story> {
         let given = bench.recall(heap, &[], 0, calls.as_str().as_bytes())?;
         let mut asked = Vec::new(heap);
-        for count in 0..given.len().saturating_add(1) {
+        for count in 0..=given.len() {
             let list = calls.as_str().as_bytes();
             let answers = bench.recall(heap, list, count, questions.as_str().as_bytes())?;
             asked.push(answers)?;
@@ -161,7 +157,7 @@ impl Story {
         for (i, one) in said.iter().enumerate() {
             let place = known.saturating_add(i);
             if let Some(wanted) = self.given.get(place) {
-                if is_same(one, wanted) {
+                if one == wanted {
                     continue;
                 }
             }

@@ -51,6 +51,16 @@ impl fmt::Display for Trouble<'_> {
     }
 }
 
+impl From<io::Error> for Trouble<'_> {
+    // Of what goes wrong while a house is shown, only want of memory is not the output's fault.
+    fn from(error: io::Error) -> Self {
+        match error.kind() {
+            io::ErrorKind::OutOfMemory => Trouble::NoMemory,
+            _ => Trouble::Unprinted,
+        }
+    }
+}
+
 // What a chip shows: a house, whose legs were printed, nothing yet, or what is no house.
 #[derive(Clone, Copy)]
 enum Shown {
@@ -63,6 +73,7 @@ enum Shown {
 fn show_legs(rt: &HostRuntime, m: &Memory) -> io::Result<()>
     requires { Sound m.now }
 {
+    // Kept: legs are in lent words, so they are gone through by number.
     for leg in 0..m.leg_count() {
         let line = leg_line(rt.alloc(), m, leg)?;
         println!(rt; "{line}")?;
@@ -71,8 +82,8 @@ fn show_legs(rt: &HostRuntime, m: &Memory) -> io::Result<()>
 }
 
 // Takes up a chip as one of a house of these limits, in memory that is lent for it, and prints its
-// legs; false where it is no such chip.
-fn show_house(rt: &HostRuntime, chip: &MemoryChip<'_>, limits: Limits) -> io::Result<bool>
+// legs. It may be no such chip.
+fn show_house(rt: &HostRuntime, chip: &MemoryChip<'_>, limits: Limits) -> io::Result<Shown>
     requires served { served limits ≡ true }
     requires size { room_for (chip_limits limits) ≤ blocks_in chip.now }
 {
@@ -87,10 +98,10 @@ fn show_house(rt: &HostRuntime, chip: &MemoryChip<'_>, limits: Limits) -> io::Re
     let mut m = open(limits, legs, fares, bookings, sums);
     let mut page = [0; 512];
     let Some(_session) = take_up(chip, &mut m, &mut page) else {
-        return Ok(false);
+        return Ok(Shown::NoHouse);
     };
     show_legs(rt, &m)?;
-    Ok(true)
+    Ok(Shown::House)
 }
 
 // Looks for a commit record, block by block, and shows the first house that the chip can be taken up
@@ -101,16 +112,19 @@ fn show_chip(rt: &HostRuntime, chip: &MemoryChip<'_>, blocks: u32) -> io::Result
 {
     let mut shown = Shown::Nothing;
     let mut page = [0; 512];
+    // Kept: a chip is asked for its pages by number.
     for block in 0..blocks {
         let PageState::Written = chip.read(block * 16, &mut page) else {
             continue;
         };
         match commit_limits(&page) {
             Some(limits) => {
-                if fits(&limits, block, blocks) && show_house(rt, chip, limits)? {
-                    return Ok(Shown::House);
-                }
                 shown = Shown::NoHouse;
+                if fits(&limits, block, blocks) {
+                    if let Shown::House = show_house(rt, chip, limits)? {
+                        return Ok(Shown::House);
+                    }
+                }
             }
             None => {
                 if block == 0 {
@@ -141,17 +155,15 @@ fn perform<'a>(rt: &HostRuntime, words: &'a [String]) -> Result<(), Trouble<'a>>
         tear: [0; 16],
     };
     let chip = MemoryChip::new(bytes.as_mut_slice(), power, rt.alloc());
-    match show_chip(rt, &chip, blocks as u32) {
-        Ok(Shown::House) | Ok(Shown::Nothing) => Ok(()),
-        Ok(Shown::NoHouse) => Err(Trouble::NoHouse(path)),
-        Err(error) => match error.kind() {
-            io::ErrorKind::OutOfMemory => Err(Trouble::NoMemory),
-            _ => Err(Trouble::Unprinted),
-        },
+    match show_chip(rt, &chip, blocks as u32)? {
+        Shown::House | Shown::Nothing => Ok(()),
+        Shown::NoHouse => Err(Trouble::NoHouse(path)),
     }
 }
 
 // The words behind the program's name.
+// Kept: a word is the outside's, of which no contract can speak, so a function that all programs share
+// would promise nothing.
 fn words(rt: &HostRuntime) -> io::Result<Vec<String>> {
     let mut words = Vec::new(rt.alloc());
     for word in env::args(rt)?.skip(1) {

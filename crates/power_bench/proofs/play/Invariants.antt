@@ -2,5 +2,5 @@ use Rattle.store.specs.Whole.{Sound}
 use Rattle.every_call.specs.Stage.{Idle}
 use Rattle.power_bench.proofs.play.Given as goal
 
-abbrev pub invariant-loop : goal.invariant-loop
-invariant-loop l = Sound l.m × Idle l.m
+abbrev pub invariant-loop-line : goal.invariant-loop-line
+invariant-loop-line l = Sound l.m × Idle l.m
