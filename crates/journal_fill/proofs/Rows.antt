@@ -5,7 +5,7 @@ use Rattle.std.proofs.lemmas.List.{take_all, take_more, get_or-take, get_or-drop
 use Rattle.wire.specs.Bytes.{row_of}
 use Rattle.wire.proofs.Fields.{row_length}
 use Rattle.journal_rows.specs.Bytes.{filled, page, all_rows}
-use Rattle.journal_records.proofs.Pages.{row_append, page_is, more}
+use Rattle.journal_words.proofs.Pages.{row_append, page_is, more}
 
 rows_push : {X : Type 0} (f : X → List ℕ) (xs : List X) (x : X) → all_rows f (xs ++ (x ∷ [])) ≡ all_rows f xs ++ f x
 unfolding all_rows

@@ -15,8 +15,9 @@ ghost use Rattle.journal_rows.specs.Kinds.{kind_number};
 ghost use Rattle.journal_rows.specs.Sorts.{page_of};
 
 use journal::Turn;
-use journal_records::{Record, put_words};
+use journal_records::Record;
 use journal_rows::{BOOKINGS_A_PAGE, FARES_A_PAGE, LEGS_A_PAGE, PageKind};
+use journal_words::put_words;
 use records::{Booking, Fare, Leg};
 use store::Memory;
 

@@ -10,7 +10,7 @@ use Rattle.journal_rows.specs.Bytes.{unrow}
 use Rattle.journal_rows.specs.Sorts.{Sort, IsSort, leg_sort, fare_sort, booking_sort, record_of, kind_in, count_in, records_in, with_first, NoneSo}
 use Rattle.journal_rows.proofs.Laws.{leg_laws, fare_laws, booking_laws}
 use Rattle.journal_rows.proofs.Cuts.{cut_none, cut_push, cut_length, cut_at}
-use Rattle.journal_records.proofs.Fits.{never}
+use Rattle.journal_ranges.proofs.Fits.{never}
 use Rattle.journal_load.specs.Pages.{Loads}
 
 module _ {X : Type 0} (s : Sort X) (w : IsSort s) (bs : List ℕ) where

@@ -1,3 +1,1 @@
-pub mod Fits
-pub mod Pages
-pub mod Words
+pub mod Placed

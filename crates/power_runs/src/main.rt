@@ -7,18 +7,19 @@
 #![tactic(auto)]
 
 mod cuts;
+mod mishaps;
 
 use anyhow::anyhow;
 use cuts::{Tally, cut_again, cut_everywhere};
 use flash::Power;
 use limits::Limits;
+use mishaps::play_mishaps;
 use power_bench::{Bench, NEVER};
 use power_lists::{FIRST_STAGE, LARGER, QUESTIONS, WORKED_EXAMPLE, with_bookings, with_questions};
-use power_others::mishaps::play_mishaps;
 use power_others::{
     log_begins, rubbish, try_garbled, try_other_limits, try_other_pages, try_out_of_range,
 };
-use power_stories::{Story, print_said};
+use power_stories::{Story, line_of};
 use scan::read_line;
 
 // A house whose log is always one block long.
@@ -140,7 +141,8 @@ fn run_small(rt: &HostRuntime) -> anyhow::Result<()> {
     let asked = with_questions(heap, QUESTIONS, 48)?;
     let story = Story::new(heap, &mut bench, calls, asked)?;
     for one in story.given().iter().take(18) {
-        print_said(rt, "", one)?;
+        let line = line_of(one);
+        println!(rt; "{line}")?;
     }
     let blank = copy_of(rt, &bench)?;
     let tally = cut_everywhere(rt, &mut bench, &story, 0, blank.as_slice())?;
@@ -166,7 +168,8 @@ fn run_example(rt: &HostRuntime) -> anyhow::Result<()> {
     let asked = with_questions(heap, QUESTIONS, 4)?;
     let story = Story::new(heap, &mut bench, calls, asked)?;
     for one in story.given().iter().skip(14).take(10) {
-        print_said(rt, "", one)?;
+        let line = line_of(one);
+        println!(rt; "{line}")?;
     }
     let blank = copy_of(rt, &bench)?;
     let tally = cut_everywhere(rt, &mut bench, &story, 0, blank.as_slice())?;

@@ -3,6 +3,8 @@
 #![tactic(auto)]
 
 ghost use Rattle.std.specs.Prelude.{◌≡◌, map, slice_index, vec_len, string_bytes};
+ghost use Rattle.chips.specs.Recorded.{said_means};
+ghost use Rattle.protocol.specs.Forms.{answer_of};
 ghost use Rattle.power_stories.specs.Stories.{behind};
 
 use anyhow::anyhow;
@@ -54,14 +56,14 @@ fn difference(a: &[Said], b: &[Said]) -> Option<usize> {
     }
 }
 
-// Prints an answer.
-pub fn print_said(rt: &HostRuntime, whose: &str, one: &Said) -> anyhow::Result<()> {
-    let line = AnswerLine {
+// The line of an answer that was given, with the list beside it.
+pub fn line_of(one: &Said) -> AnswerLine<'_>
+    ensures { answer_of result.answer result.list.now ≡ said_means one.now }
+{
+    AnswerLine {
         answer: one.answer,
         list: one.list(),
-    };
-    println!(rt; "{whose}{line}")?;
-    Ok(())
+    }
 }
 
 // Prints an answer of a list, if there is one.
@@ -72,12 +74,13 @@ pub fn print_answer(
     place: usize,
 ) -> anyhow::Result<()> {
     match said.get(place) {
-        Some(one) => print_said(rt, whose, one),
-        None => {
-            println!(rt; "{whose}no answer")?;
-            Ok(())
+        Some(one) => {
+            let line = line_of(one);
+            println!(rt; "{whose}{line}")?;
         }
+        None => println!(rt; "{whose}no answer")?,
     }
+    Ok(())
 }
 
 // Prints when power was to fail, and the line whose answer differs.

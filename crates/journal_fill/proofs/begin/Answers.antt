@@ -4,7 +4,7 @@ use Rattle.wire.specs.Bytes.{row_of}
 use Rattle.wire.proofs.Fields.{row_length}
 use Rattle.journal_rows.specs.Bytes.{filled}
 use Rattle.journal_rows.specs.Kinds.{kind_number}
-use Rattle.journal_records.proofs.Pages.{first}
+use Rattle.journal_words.proofs.Pages.{first}
 use Rattle.journal_fill.proofs.begin.Goals as goal
 
 pub returns : goal.returns

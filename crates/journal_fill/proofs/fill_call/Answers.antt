@@ -3,7 +3,7 @@ use Rattle.std.proofs.Common.{List, [], ◌∷◌, ◌++◌, length, ap, ◌∙�
 use Rattle.wire.specs.Bytes.{row_of}
 use Rattle.wire.proofs.Fields.{row_length}
 use Rattle.journal_rows.specs.Bytes.{filled}
-use Rattle.journal_records.proofs.Pages.{more}
+use Rattle.journal_words.proofs.Pages.{more}
 use Rattle.journal_fill.proofs.fill_call.Goals as goal
 
 pub returns : goal.returns

@@ -8,7 +8,7 @@ use Rattle.wire.proofs.Fields.{row_length}
 use Rattle.journal.specs.Codes.{turn_of}
 use Rattle.journal_rows.specs.Layout.{head}
 use Rattle.journal_rows.specs.Bytes.{filled, commit_numbers}
-use Rattle.journal_records.proofs.Pages.{more, row_append, page_is}
+use Rattle.journal_words.proofs.Pages.{more, row_append, page_is}
 use Rattle.journal_fill.proofs.fill_commit.Goals as goal
 
 pub overflow_cast-words : goal.overflow_cast-words

@@ -6,7 +6,8 @@ use Rattle.records.specs.declared.Booking.{Booking}
 use Rattle.store.specs.Range as memory
 use Rattle.journal_rows.specs.Layout.{FineBooking}
 use Rattle.journal_rows.specs.Sorts.{record_of}
-use Rattle.journal_records.proofs.Fits.{placed, first_numbers, for_memory}
+use Rattle.journal_ranges.proofs.Fits.{for_memory}
+use Rattle.journal_records.proofs.Placed.{placed, first_numbers}
 use Rattle.journal_records.proofs.BookingRecord.read.Goals as goal
 
 -- a booking of all its numbers

@@ -4,8 +4,9 @@ use Rattle.meaning.specs.Calls.{good_fields}
 use Rattle.records.specs.Words.{fare_read}
 use Rattle.records.specs.Means.{fare_means}
 use Rattle.store.proofs.Ranges.{fare_fine}
-use Rattle.journal_records.specs.Got.{fare_fits}
-use Rattle.journal_records.proofs.Fits.{never, placed}
+use Rattle.checks.specs.Ranges.{fare_fits}
+use Rattle.journal_ranges.proofs.Fits.{never}
+use Rattle.journal_records.proofs.Placed.{placed}
 use Rattle.journal_records.proofs.FareRecord.read.Goals as goal
 
 pub returns-then-not-fare_in_range : goal.returns-then-not-fare_in_range

@@ -5,7 +5,8 @@ use Rattle.records.specs.Means.{leg_means}
 use Rattle.records.specs.declared.Leg.{Leg}
 use Rattle.store.proofs.Ranges.{leg_fine}
 use Rattle.journal_rows.specs.Sorts.{record_of}
-use Rattle.journal_records.proofs.Fits.{range, placed}
+use Rattle.journal_ranges.proofs.Fits.{range}
+use Rattle.journal_records.proofs.Placed.{placed}
 use Rattle.journal_records.proofs.LegRecord.read.Goals as goal
 
 pub returns-then-leg-gt26 : goal.returns-then-leg-gt26

@@ -3,7 +3,7 @@ use Rattle.std.proofs.Common.{◌≡◌, ◌<◌, [], ◌∷◌, ◌++◌, lengt
 use Rattle.std.proofs.lemmas.List.{get_or-drop, length-drop, take_more, take_more_set, take_all}
 use Rattle.wire.specs.Bytes.{numbers_in}
 use Rattle.wire.proofs.Fields.{numbers_length}
-use Rattle.journal_records.proofs.words_at.Goals as goal
+use Rattle.journal_words.proofs.words_at.Goals as goal
 
 pub loop-i-preserved : goal.loop-i-preserved
 loop-i-preserved c =

@@ -1,8 +1,9 @@
 -- Each test in its turn; the last one decides.
 use Rattle.std.proofs.Common.{sym, ap, ◌∙◌, subst}
 use Rattle.meaning.specs.Calls.{no_twice}
-use Rattle.journal_records.proofs.Fits.{AllBelow, index_all, all_index, never, whole_part, asks_few, asks_pass, stands_pass, booking_fits}
-use Rattle.journal_records.proofs.booking_in_range.Goals as goal
+use Rattle.journal_words.proofs.Words.{whole_part}
+use Rattle.journal_ranges.proofs.Fits.{AllBelow, index_all, all_index, never, asks_few, asks_pass, stands_pass, booking_fits}
+use Rattle.journal_ranges.proofs.booking_in_range.Goals as goal
 
 pub returns-then-not-asks_in_range : goal.returns-then-not-asks_in_range
 returns-then-not-asks_in_range c = record {

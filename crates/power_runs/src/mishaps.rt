@@ -1,6 +1,6 @@
 // How houses went wrong, each played on a new chip, and every answer printed.
 use power_bench::{Bench, NEVER};
-use power_stories::print_said;
+use power_stories::line_of;
 
 // What went wrong elsewhere, and must not here, with the calls that show it.
 const MISHAPS: [(&str, &str); 5] = [
@@ -35,7 +35,8 @@ const ASKED: &str = "booking 0\nleg 0\n";
 fn show(rt: &HostRuntime, bench: &mut Bench, text: &str) -> anyhow::Result<()> {
     let life = bench.live(rt.alloc(), NEVER, text.as_bytes())?;
     for one in life.said.as_slice() {
-        print_said(rt, "", one)?;
+        let line = line_of(one);
+        println!(rt; "{line}")?;
     }
     Ok(())
 }

@@ -3,8 +3,6 @@ use Rattle.std.proofs.Common.{◌≡◌, ℕ, ◌+◌, ◌-◌, ◌*◌, ◌<◌
 use Rattle.std.proofs.lemmas.List.{drop-drop, drop-take, get_or-take, length-take-le, take-take}
 use Rattle.std.proofs.lemmas.Bool.{and_left, and_right, and_from, and_parts, le-leb, lt-leb, lt-ltb, leb-true, ltb-true}
 use Rattle.meaning.specs.Calls.{opens, books, good_fields, good_limits, falling, all_to, no_twice}
-use Rattle.wire.specs.Bytes.{numbers_in}
-use Rattle.records.specs.Words.{booking_read}
 use Rattle.records.specs.Means.{booking_means}
 use Rattle.records.specs.declared.Leg.{Leg}
 use Rattle.records.specs.declared.Booking.{Booking}
@@ -12,8 +10,8 @@ use Rattle.store.specs.Range as memory
 use Rattle.store.proofs.Ranges.{booking_fine}
 use Rattle.journal.specs.Slots.{AllOf}
 use Rattle.journal_rows.specs.Layout.{FineBooking}
-use Rattle.journal_rows.specs.Sorts.{record_of}
-use Rattle.journal_records.specs.Got.{leg_fits, asks_fit, stands_fit}
+use Rattle.checks.specs.Ranges.{schedule_fits, schedule_of}
+use Rattle.journal_ranges.specs.Asked.{asks_fit, stands_fit}
 use Rattle.journal_rows.proofs.Cuts.{all_at}
 
 -- all these legs are among the first n
@@ -33,10 +31,6 @@ all_index n xs a k h = all_at (λ (i : ℕ). i < n) xs a k 0 h
 pub never : {A : Type 0} → false ≡ true → A
 never e = let z : ◌≡◌ {A = ℕ} 0 1 = cc in absurd (omega arith)
 
--- all of a list that is taken from its start
-pub whole_part : (n : ℕ) (xs : List ℕ) → take (n - 0) xs ≡ take n xs
-whole_part n xs = ap (λ (k : ℕ). take k xs) (omega arith)
-
 module _ (g : Leg) where
   abbrev its : List ℕ
   its = take g.classes g.limits
@@ -45,7 +39,7 @@ module _ (g : Leg) where
   range = good_fields (opens g.from g.to g.leaves g.arrives its)
 
   -- the range of a leg is that of its numbers and that of its limits
-  grouped : range ≡ (leg_fits g && good_limits its)
+  grouped : range ≡ (schedule_fits (schedule_of g) && good_limits its)
   unfolding good_fields
   grouped = regroup (ltb g.from 65536 && ltb g.to 65536) (ltb g.leaves g.arrives && ltb g.arrives 16777216) (good_limits its)
     where
@@ -53,39 +47,21 @@ module _ (g : Leg) where
       regroup true q r = refl
       regroup false q r = refl
 
-  pub not_times : leg_fits g ≡ false → false ≡ range
-  not_times e = sym (grouped ∙ and_left (leg_fits g) (good_limits its) e)
+  pub not_times : schedule_fits (schedule_of g) ≡ false → false ≡ range
+  not_times e = sym (grouped ∙ and_left (schedule_fits (schedule_of g)) (good_limits its) e)
 
   pub no_limits : length its < 1 → false ≡ range
   no_limits h =
       let e : good_limits its ≡ false = and_left (leb 1 (length its) && leb (length its) 26) (falling its && all_to 1000 its) (and_left (leb 1 (length its)) (leb (length its) 26) (lt-leb 1 (length its) h)) in
-      sym (grouped ∙ and_right (leg_fits g) (good_limits its) e)
+      sym (grouped ∙ and_right (schedule_fits (schedule_of g)) (good_limits its) e)
 
   pub not_falling : falling its ≡ false → false ≡ range
   not_falling f =
       let e : good_limits its ≡ false = and_right (leb 1 (length its) && leb (length its) 26) (falling its && all_to 1000 its) (and_left (falling its) (all_to 1000 its) f) in
-      sym (grouped ∙ and_right (leg_fits g) (good_limits its) e)
+      sym (grouped ∙ and_right (schedule_fits (schedule_of g)) (good_limits its) e)
 
-  pub by_small : leg_fits g ≡ true → 1 ≤ length its → length its ≤ 26 → falling its ≡ true → all_to 1000 its ≡ range
+  pub by_small : schedule_fits (schedule_of g) ≡ true → 1 ≤ length its → length its ≤ 26 → falling its ≡ true → all_to 1000 its ≡ range
   by_small t a b f = sym (grouped ∙ (λ d. t d && ((le-leb 1 (length its) a d && le-leb (length its) 26 b d) && (f d && all_to 1000 its))))
-
--- the numbers that a record is read of, as the page has them
-pub placed : (w : ℕ) (bs : List ℕ) (k : ℕ) → take w (drop (2 + k * w) (numbers_in bs)) ≡ record_of w bs k
-placed w bs k = ap (take w) (sym (drop-drop (k * w) 2 (numbers_in bs)))
-
--- a booking's first 13 numbers, of more
-pub first_numbers : (ws : List ℕ) (p : ℕ) → booking_read (take 13 ws) p ≡ booking_read ws p
-first_numbers ws p =
-    let is : take 8 (drop 5 (take 13 ws)) ≡ take 8 (drop 5 ws) = ap (take 8) (drop-take 5 8 ws) ∙ take-take 8 8 (drop 5 ws) (lit≤ tt) in
-    λ d. record {
-      class = get_or-take 13 ws 0 0 (lit< tt) d;
-      seats = get_or-take 13 ws 1 0 (lit< tt) d;
-      stands = get_or-take 13 ws 2 0 (lit< tt) d;
-      until = get_or-take 13 ws 3 0 (lit< tt) d;
-      count = get_or-take 13 ws 4 0 (lit< tt) d;
-      legs = is d;
-      paid = p;
-    }
 
 module _ (n : ℕ) (b : Booking) (whole : length b.legs ≡ 8) where
   abbrev journey : List ℕ

@@ -1,9 +1,8 @@
 -- The leg's numbers stand at the front, and its limits behind them.
 use Rattle.std.proofs.Common.{length, ap, ◌∙◌, arith, rules}
 use Rattle.records.specs.declared.Leg.{Leg}
-use Rattle.journal_records.proofs.Fits.{whole_part}
-use Rattle.journal_records.proofs.Words.{leg_put, leg_long}
-use Rattle.journal_records.proofs.leg_words.Goals as goal
+use Rattle.journal_words.proofs.Words.{leg_put, leg_long, whole_part}
+use Rattle.journal_words.proofs.leg_words.Goals as goal
 
 pub returns : goal.returns
 returns c =

@@ -3,8 +3,8 @@ use Rattle.std.proofs.Common.{ap, ◌∙◌, arith}
 use Rattle.wire.proofs.Fields.{row_length}
 use Rattle.wire.proofs.Written.{same_row}
 use Rattle.wire.specs.Bytes.{over, row_of}
-use Rattle.journal_records.proofs.Pages.{whole}
-use Rattle.journal_records.proofs.put_words.Goals as goal
+use Rattle.journal_words.proofs.Pages.{whole}
+use Rattle.journal_words.proofs.put_words.Goals as goal
 
 pub returns : goal.returns
 returns c =

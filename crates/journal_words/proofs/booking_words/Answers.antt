@@ -2,9 +2,8 @@
 use Rattle.std.proofs.Common.{length, ap, ◌∙◌, arith, rules}
 use Rattle.std.proofs.lemmas.List.{places}
 use Rattle.records.specs.declared.Booking.{Booking}
-use Rattle.journal_records.proofs.Fits.{whole_part}
-use Rattle.journal_records.proofs.Words.{booking_put, booking_long}
-use Rattle.journal_records.proofs.booking_words.Goals as goal
+use Rattle.journal_words.proofs.Words.{booking_put, booking_long, whole_part}
+use Rattle.journal_words.proofs.booking_words.Goals as goal
 
 pub slice_bounds-words-end-3 : goal.slice_bounds-words-end-3
 slice_bounds-words-end-3 c = search (rules, places)

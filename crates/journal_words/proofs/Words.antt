@@ -51,3 +51,7 @@ pub booking_long : (b : Booking) → b.count ≤ 8 → length (booking_row (book
 booking_long b l =
     let n : length (padded 8 (take b.count b.legs)) ≡ 8 = length_padded 8 (take b.count b.legs) (omega (arith, length-take b.count b.legs)) in
     ap (λ z. suc (suc (suc (suc (suc z))))) (length-append (padded 8 (take b.count b.legs)) (b.paid % 4294967296 ∷ (b.paid / 4294967296 ∷ [])) ∙ omega arith)
+
+-- all of a list that is taken from its start
+pub whole_part : (n : ℕ) (xs : List ℕ) → take (n - 0) xs ≡ take n xs
+whole_part n xs = ap (λ (k : ℕ). take k xs) (omega arith)
