@@ -10,10 +10,11 @@ ghost use Rattle.records.specs.Words.{leg_of};
 ghost use Rattle.checks.specs.Ranges.{fare_fits, schedule_fits, schedule_of, seats_fit};
 ghost use Rattle.checks.specs.Lists.{LimitsRead, ListRead, leg_there, legs_join};
 
-use arrayvec::ArrayVec;
+mod lists;
+
+pub use lists::Listed;
 use records::{Fare, Leg};
 use store::Memory;
-use wire::{first_numbers, leg_count};
 
 // Between which places a leg goes, and when it leaves and arrives.
 #[derive(Clone, Copy)]
@@ -32,10 +33,10 @@ pub struct Seats {
 }
 
 // The legs of a journey: one to eight.
-pub type Journey = ArrayVec<u32, 8>;
+pub type Journey = Listed<8>;
 
 // The limits of a leg: one to twenty-six.
-pub type LimitRow = ArrayVec<u32, 26>;
+pub type LimitRow = Listed<26>;
 
 impl Schedule {
     // The schedule of a leg.
@@ -84,32 +85,18 @@ pub fn fare_in_range(fare: &Fare) -> bool
         && ((fare.class < 26 && (1 <= fare.most && fare.most <= 8)) && fare.price <= 100_000_000)
 }
 
-// The numbers that a part lists; none where they are none, or more than N.
-fn read_list<const N: usize>(part: &[u8]) -> Option<ArrayVec<u32, N>>
-    ensures { ListRead N part.now result }
-{
-    let count = leg_count(part);
-    if count == 0 || count > N {
-        return None;
-    }
-    let numbers = first_numbers::<N>(part);
-    let mut list = ArrayVec::new();
-    list.try_extend_from_slice(&numbers[..count]).ok()?;
-    Some(list)
-}
-
 // The journey that a part lists; none where it has no legs or more than eight.
 pub fn read_journey(part: &[u8]) -> Option<Journey>
     ensures { ListRead 8 part.now result }
 {
-    read_list(part)
+    Listed::read(part)
 }
 
 // The limits that a part lists; none where they are none, more than 26, rise, or are above 1,000.
 pub fn read_limits(part: &[u8]) -> Option<LimitRow>
     ensures { LimitsRead part.now result }
 {
-    read_list(part).filter(|limits: &LimitRow| {
+    Listed::read(part).filter(|limits: &LimitRow| {
         are_falling(limits.as_slice()) && are_small(limits.as_slice())
     })
 }

@@ -1,5 +1,7 @@
 // An answer that was given, as it is recorded.
-ghost use Rattle.std.specs.Prelude.{◌≤◌};
+ghost use Rattle.std.specs.Prelude.{◌≡◌, ◌<◌, length, MatchOption};
+ghost use Rattle.protocol.specs.Forms.{answer_of};
+ghost use Rattle.chips.specs.Recorded.{list_of, said_means};
 
 use protocol::Answer;
 
@@ -10,16 +12,11 @@ const LONGEST: usize = 26;
 #[derive(Clone, Copy, PartialEq)]
 pub struct Said {
     pub answer: Answer,
-    sold: [u64; 26],
-    listed: usize,
-    ghost fits: { listed ≤ 26 },
+    pub sold: [u64; 26],
+    pub listed: usize,
 }
 
 impl Said {
-    ghost use Rattle.std.specs.Prelude.{◌≡◌, ◌<◌, length, MatchOption};
-    ghost use Rattle.protocol.specs.Forms.{answer_of};
-    ghost use Rattle.chips.specs.Recorded.{list_of, said_means};
-
     // An answer with this list, if that is no longer than any answer's.
     pub fn new(answer: Answer, list: &[u64]) -> Option<Said>
         ensures { MatchOption result (26 < length list.now) (λ s. said_means s ≡ answer_of answer list.now) }
@@ -40,6 +37,6 @@ impl Said {
     pub fn list(&self) -> &[u64]
         ensures { result.now ≡ list_of self.now }
     {
-        &self.sold[..self.listed]
+        &self.sold[..self.listed.min(LONGEST)]
     }
 }

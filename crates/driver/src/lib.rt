@@ -66,8 +66,8 @@ pub trait Device {
 // of each of the three, before and after; in one struct each would only be named by a field more.
 #[derive(Drop)]
 pub struct Buffers {
-    page: [u8; 512],
-    out: [u8; 256],
+    pub page: [u8; 512],
+    pub out: [u8; 256],
 }
 
 impl Buffers {

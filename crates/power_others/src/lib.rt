@@ -4,6 +4,8 @@
 ghost use Rattle.std.specs.Prelude.{◌≡◌, ◌+◌, ◌*◌, ◌<◌, IfOk, length, slice_index};
 ghost use Rattle.power_others.specs.Rubbish.{IsRubbish, Marked};
 
+pub mod mishaps;
+
 use anyhow::anyhow;
 use limits::Limits;
 use player::Unfinished;

@@ -7,15 +7,14 @@
 #![tactic(auto)]
 
 mod cuts;
-mod mishaps;
 
 use anyhow::anyhow;
 use cuts::{Tally, cut_again, cut_everywhere};
 use flash::Power;
 use limits::Limits;
-use mishaps::play_mishaps;
 use power_bench::{Bench, NEVER};
 use power_lists::{FIRST_STAGE, LARGER, QUESTIONS, WORKED_EXAMPLE, with_bookings, with_questions};
+use power_others::mishaps::play_mishaps;
 use power_others::{
     log_begins, rubbish, try_garbled, try_other_limits, try_other_pages, try_out_of_range,
 };

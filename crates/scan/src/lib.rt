@@ -108,15 +108,17 @@ pub fn skip_spaces(line: &[u8]) -> &[u8]
     take_front(Kind::Space, line).rest
 }
 
-// The number that digits write, or the largest that eight bytes hold where that is smaller.
+// One more than the largest number that four bytes hold.
+const TOO_LARGE: u64 = 4_294_967_296;
+
+// The number that digits write, or one that is too large where it is larger.
 fn value_of(digits: &[u8]) -> u64
-    ensures { result ≡ min (value_on 0 digits.now) 18446744073709551615 }
+    ensures { result ≡ min (value_on 0 digits.now) 4294967296 }
 {
-    digits.iter().fold(0u64, |value, digit| {
-        value
-            .saturating_mul(10)
-            .saturating_add(u64::from(digit.saturating_sub(b'0')))
-    })
+    let value = digits.iter().fold(0u64, |value, digit| {
+        value.min(TOO_LARGE) * 10 + u64::from(digit.saturating_sub(b'0'))
+    });
+    value.min(TOO_LARGE)
 }
 
 // The first line of a text, without the byte that ends it.

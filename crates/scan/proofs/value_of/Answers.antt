@@ -1,8 +1,8 @@
-use Rattle.std.proofs.Common.{◌≡◌, ◌+◌, ◌-◌, ◌*◌, min, fold, rules, ◌∙◌}
+use Rattle.std.proofs.Common.{◌≡◌, ◌+◌, ◌-◌, ◌*◌, min, fold, rules, ap, ◌∙◌}
 use Rattle.scan.proofs.Fronts.{value_capped}
 use Rattle.scan.proofs.value_of.Goals as goal
 
 pub returns : goal.returns
 returns c =
-    let mirrored : c.fold.result ≡ fold (λ v b. min (min (v * 10) 18446744073709551615 + (b - 48)) 18446744073709551615) 0 c.args.digits.now = search rules in
-    mirrored ∙ value_capped 18446744073709551615 c.args.digits.now
+    let mirrored : c.fold-value.result ≡ fold (λ v b. min v 4294967296 * 10 + (b - 48)) 0 c.args.digits.now = search rules in
+    c.min.ensures ∙ ap (λ v. min v 4294967296) mirrored ∙ value_capped 4294967296 c.args.digits.now
